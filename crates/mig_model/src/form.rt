@@ -1,0 +1,6 @@
+/// The form of a save: NBT of the Java Edition, uncompressed, or JSON.
+#[derive(Clone, Copy, Debug, PartialEq, Eq)]
+pub enum Form {
+    Nbt,
+    Json,
+}

@@ -1,0 +1,4 @@
+pub mod Spelling
+pub mod Token
+pub mod Lexical
+pub mod Cuts

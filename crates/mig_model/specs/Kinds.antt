@@ -2,7 +2,7 @@
 use Rattle.std.specs.Prelude.{◌≡◌, ℕ, List, [], ◌∷◌, Option, None, refl}
 use Rattle.std.proofs.Common.{ap}
 use Rattle.mig_model.specs.Plain as plain
-use Rattle.mig_model.specs.Plain.{Plain, pairs_of, entries}
+use Rattle.mig_model.specs.Plain.{Plain, trees_of, items, pairs_of, entries}
 use Rattle.mig_model.specs.Names.{with_pair, without, found}
 use Rattle.mig_model.specs.declared.kind.Kind.{Kind}
 use Rattle.mig_model.specs.declared.kind.Kind.TheVariants as K
@@ -46,3 +46,7 @@ removed name u = u
 pub entries_of_pairs : (ps : List (List ℕ × Plain)) → entries (pairs_of ps) ≡ ps
 entries_of_pairs [] = refl
 entries_of_pairs (p ∷ ps) = ap (λ l. p ∷ l) (entries_of_pairs ps)
+
+pub items_of_trees : (ts : List Plain) → items (trees_of ts) ≡ ts
+items_of_trees [] = refl
+items_of_trees (t ∷ ts) = ap (λ l. t ∷ l) (items_of_trees ts)

@@ -1,13 +1,22 @@
-// A library with one function.
+//! Save trees: texts, lists, maps that ascend by name, places in them, and the counter of entered nodes.
 #![tactic(auto)]
 
-ghost use Rattle.std.specs.Prelude.{◌≡◌};
-ghost use Rattle.mig_tree.specs.Echo.{echo_of};
+mod entries;
+mod gathering;
+mod items;
+mod place;
+mod spelling;
+mod steps;
+mod text;
+mod tree;
+mod write_step;
 
-// The `ensures` clause is the contract: what `echo` returns is `echo_of` of its argument, a definition
-// in `specs/Echo.antt`, which a caller's clause can cite too.
-pub fn echo(x: usize) -> usize
-    ensures { result ≡ echo_of x }
-{
-    x
-}
+pub use entries::{Entries, Entry};
+pub use gathering::gather;
+pub use items::Items;
+pub use mig_model::{Form, Kind, Memory, Name};
+pub use place::{Place, Step};
+pub use spelling::spell;
+pub use steps::Steps;
+pub use text::Text;
+pub use tree::Tree;

@@ -1,0 +1,4 @@
+pub mod Places
+pub mod Edits
+pub mod Kept
+pub mod Sorted

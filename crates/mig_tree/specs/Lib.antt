@@ -1,0 +1,5 @@
+pub mod Text
+pub mod View
+pub mod Falls
+pub mod Spelling
+pub mod Place

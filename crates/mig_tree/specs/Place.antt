@@ -1,0 +1,15 @@
+-- A place as text.
+use Rattle.std.specs.Prelude.{ℕ, List, [], ◌∷◌, flat_map}
+use Rattle.std.specs.Fmt.{decimal}
+use Rattle.mig_tree.specs.Spelling.{spelled_byte}
+use Rattle.mig_tree.specs.declared.place.Step.{Step}
+use Rattle.mig_tree.specs.declared.place.Step.TheVariants.{Named, Index}
+
+-- a slash, and the spelled name or the number
+abbrev pub step_text : Step → List ℕ
+step_text (Named n) = 47 ∷ flat_map spelled_byte n
+step_text (Index i) = 47 ∷ decimal i
+
+abbrev pub place_text : List Step → List ℕ
+place_text [] = 47 ∷ []
+place_text (s ∷ ss) = flat_map step_text (s ∷ ss)

@@ -1,0 +1,70 @@
+ghost use Rattle.std.specs.Prelude.{◌≡◌, IfOk};
+
+use crate::write_step::write_step;
+use crate::{Memory, Name};
+use std::alloc::Global;
+use std::marker::Model;
+
+/// One step of a place: under a name of a map, or at an index of a list, counted from 0.
+#[derive(Debug, Drop)]
+pub enum Step {
+    Named(Name),
+    Index(usize),
+}
+
+/// A way from the root of a tree, which contracts see as the list of its steps.
+#[derive(Debug, Drop)]
+pub struct Place {
+    steps: Vec<Step>,
+}
+
+impl Model for Place {
+    ghost use Rattle.std.specs.Prelude.{List};
+    ghost use Rattle.mig_tree.specs.declared.place.Step.{Step};
+
+    ghost Value = { List Step };
+
+    ghost view = { λ a. a.steps.items };
+}
+
+impl Place {
+    ghost use Rattle.mig_tree.specs.Place.{step_text, place_text};
+
+    /// The place with these steps.
+    pub fn new(steps: Vec<Step>) -> Place
+        ensures { result ≡ steps.items }
+    {
+        Place { steps }
+    }
+
+    /// The steps, outermost first.
+    pub fn as_slice(&self) -> &[Step]
+        ensures { result.now ≡ self.now }
+    {
+        self.steps.as_slice()
+    }
+
+    /// Gives the steps up.
+    pub fn into_vec(self) -> Vec<Step>
+        ensures { result.items ≡ self }
+    {
+        let Place { steps } = self;
+        steps
+    }
+
+    /// The place as text: `/` and then each name, spelled, or index in decimal. The empty place is `/`.
+    pub fn text(&self, alloc: Global) -> Result<Vec<u8>, Memory>
+        ensures { IfOk result (λ out. out.items ≡ place_text self.now) }
+    {
+        let mut out = Vec::new(alloc);
+        let steps = self.as_slice();
+        if steps.is_empty() {
+            out.push(b'/')?;
+            return Ok(out);
+        }
+        for step in steps {
+            write_step(alloc, &mut out, step)?;
+        }
+        Ok(out)
+    }
+}

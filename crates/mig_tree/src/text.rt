@@ -1,0 +1,71 @@
+ghost use Rattle.std.specs.Prelude.{◌≡◌};
+ghost use Rattle.mig_model.specs.Keeps.{IsShort};
+
+use std::marker::Model;
+
+/// The bytes of a text, lent by the source or owned. Contracts see the bytes alone, so two texts with the same bytes are equal there.
+#[derive(Debug, Drop)]
+pub struct Text<'a> {
+    held: Held<'a>,
+}
+
+#[derive(Debug, Drop)]
+enum Held<'a> {
+    Lent(&'a [u8]),
+    Own(Vec<u8>),
+}
+
+impl<'a> Model for Text<'a> {
+    ghost use Rattle.std.specs.Prelude.{List, ℕ};
+
+    ghost Value = { List ℕ };
+
+    ghost use Rattle.mig_tree.specs.Text.{held_bytes};
+
+    ghost view = { λ a. held_bytes a.held };
+}
+
+impl<'a> Text<'a> {
+    /// A text that lends its bytes.
+    pub fn lent(bytes: &'a [u8]) -> Text<'a>
+        ensures { result ≡ bytes.now }
+    {
+        Text {
+            held: Held::Lent(bytes),
+        }
+    }
+
+    /// A text that owns its bytes.
+    pub fn own(bytes: Vec<u8>) -> Text<'a>
+        ensures { result ≡ bytes.items }
+    {
+        Text {
+            held: Held::Own(bytes),
+        }
+    }
+
+    /// Whether the bytes are the source's. No contract speaks of the answer.
+    pub fn is_lent(&self) -> bool {
+        match &self.held {
+            Held::Lent(_) => true,
+            Held::Own(_) => false,
+        }
+    }
+
+    /// The bytes of the text.
+    pub fn bytes(&self) -> &[u8]
+        ensures { result.now ≡ self.now }
+    {
+        match &self.held {
+            Held::Lent(bytes) => bytes,
+            Held::Own(bytes) => bytes.as_slice(),
+        }
+    }
+
+    /// Does nothing. Its contract tells that a machine word holds the length.
+    pub fn keeps(&self)
+        ensures { IsShort self.now }
+    {
+        let _len = self.bytes().len();
+    }
+}

@@ -1,5 +1,5 @@
 -- A map as its pairs, whose names ascend by bytes.
-use Rattle.std.specs.Prelude.{ℕ, List, Option}
+use Rattle.std.specs.Prelude.{ℕ, List, [], ◌∷◌, Option, Some, None, is_some, if◌then◌else◌, option_and_then}
 use Rattle.std.specs.Ordering.{nat_cmp}
 use Rattle.std.specs.declared.cmp.Ordering.{Ordering}
 use Rattle.std.specs.Cmp.Lexicographic.{slice_cmp}
@@ -23,3 +23,8 @@ without name ps = remove_entry (is_at (by_bytes name)) ps
 
 abbrev pub found : List ℕ → List (List ℕ × Plain) → Option Plain
 found name ps = lookup (is_at (by_bytes name)) ps
+
+-- the pairs in the order of their names, or none where two names are equal
+abbrev pub gathered : List (List ℕ × Plain) → Option (List (List ℕ × Plain))
+gathered [] = Some []
+gathered (q ∷ qs) = option_and_then (λ ps. if is_some (found q.0 ps) then None else Some (with_pair q.0 q.1 ps)) (gathered qs)

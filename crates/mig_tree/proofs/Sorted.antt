@@ -10,6 +10,7 @@ use Rattle.std.specs.Map.{keys_of}
 use Rattle.std.proofs.lemmas.Cmp.{nat_list_cmp_total}
 use Rattle.std.proofs.lemmas.List.Sorted.{IsPermutation-map, IsPermutation-sym}
 use Rattle.std.proofs.lemmas.Map.Keys.{Less-from_sorted, apart_from_distinct, IsDistinct-from_sorted, IsDistinct-IsPermutation, sorted_from_all_adjacent}
+use Rattle.mig_model.proofs.Ascending.{flips}
 use Rattle.mig_model.specs.Plain.{Plain, pairs_of}
 use Rattle.mig_model.specs.Keeps.{Keeps, IsShort, AllPairsKeep}
 use Rattle.mig_model.specs.Names.{by_bytes, IsNamed}
@@ -45,14 +46,6 @@ pub rises_at : (es : List Entry) (i : ℕ) (d : Entry) → IsNamed (map entry_of
 rises_at es i d s a b =
     sym (λ t. by_bytes (key_at es (i - 1) d t) (key_at es i d t))
     ∙ Less-from_sorted by_bytes (keys_of (map entry_of es)) (i - 1) i d.name s (omega arith) (omega (arith, keys_length es))
-
-flips : (x y : List ℕ) → eq_by_cmp by_bytes x y ≡ eq_by_cmp by_bytes y x
-flips x y = reversed (by_bytes y x) (by_bytes x y) (nat_list_cmp_total.antisymm x y)
-  where
-    reversed : (r s : Ordering) → s ≡ ordering_reverse r → is_eq s ≡ is_eq r
-    reversed Less s h = ap is_eq h
-    reversed Equal s h = ap is_eq h
-    reversed Greater s h = ap is_eq h
 
 neither : (r s : Ordering) → r ≡ ordering_reverse s → is_lt s ≡ false → is_eq r ≡ false → r ≡ Less
 neither Less s h a b = refl

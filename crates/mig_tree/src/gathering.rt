@@ -2,7 +2,7 @@ ghost use Rattle.std.specs.Prelude.{◌≡◌, ℕ, List, ◌↔◌, map, IsTrue
 ghost use Rattle.std.specs.List.Sorted.{IsSortedByKey};
 ghost use Rattle.mig_model.specs.Plain.{Plain, pairs_of};
 ghost use Rattle.mig_model.specs.Names.{by_bytes, IsNamed};
-ghost use Rattle.mig_model.specs.Keeps.{IsShort, AllPairsKeep};
+ghost use Rattle.mig_model.specs.Keeps.{IsShort, AllPairsKeep, EntriesKeep};
 ghost use Rattle.mig_tree.specs.View.{entry_of};
 
 use crate::{Entries, Entry};
@@ -44,6 +44,7 @@ fn ascends(list: &[Entry]) -> bool
 /// The map of these pairs, which may come in any order, and `None` where two names are equal.
 pub fn gather<'a>(mut list: Vec<Entry<'a>>) -> Option<Entries<'a>>
     ensures found { IfSome result (IsPermutation (map entry_of list.entry.items)) }
+    ensures keep { IfSome result EntriesKeep }
     ensures twice { IfNone result ((ps : List (List ℕ × Plain)) → IsPermutation (map entry_of list.entry.items) ps → IsNamed ps → ⊥) }
 {
     sort_by_name(&mut list);

@@ -1,0 +1,98 @@
+-- The NBT format, as a relation between bytes and trees.
+use Rattle.std.specs.Prelude.{◌≡◌, ℕ, zero, suc, ◌*◌, ◌<◌, ◌≤◌, ◌^◌, List, [], ◌∷◌, ◌++◌, length, Bool, true, false, ◌&&◌, nat_lt, nat_le, ◌==◌, Option, Some, None, if◌then◌else◌, IsPermutation}
+use Rattle.std.specs.Int.{Width, w8, w16, w32, w64, byte_len, from_be_bytes, cast_signed}
+use Rattle.mig_model.specs.Plain as plain
+use Rattle.mig_model.specs.Plain.{Plain, trees_of, pairs_of}
+use Rattle.mig_model.specs.Names.{IsNamed}
+use Rattle.mig_nbt.specs.declared.tag.Tag.{Tag}
+use Rattle.mig_nbt.specs.declared.tag.Tag.TheVariants.{End, Byte, Short, Int, Long, Float, Double, ByteArray, Text, Items, Compound, IntArray, LongArray}
+
+-- the number of a tag
+abbrev pub number_of : Tag → ℕ
+number_of End = 0
+number_of Byte = 1
+number_of Short = 2
+number_of Int = 3
+number_of Long = 4
+number_of Float = 5
+number_of Double = 6
+number_of ByteArray = 7
+number_of Text = 8
+number_of Items = 9
+number_of Compound = 10
+number_of IntArray = 11
+number_of LongArray = 12
+
+-- the bytes are the big-endian number n
+abbrev pub Number : Width → List ℕ → ℕ → Type 0
+Number w b n = (length b ≡ byte_len w) × (n ≡ from_be_bytes w b)
+
+abbrev pub is_more : ℕ → Bool
+is_more b = nat_le 128 b && nat_lt b 192
+
+-- how many more bytes the group of this byte has, behind a byte at which so many were still to come
+abbrev pub still_to_come : ℕ → ℕ → Option ℕ
+still_to_come zero b = if nat_lt b 128 then Some 0 else (if nat_le 192 b && nat_lt b 224 then Some 1 else (if nat_le 224 b && nat_lt b 240 then Some 2 else None))
+still_to_come (suc n) b = if is_more b then Some n else None
+
+-- with so many bytes still to come of the first group, the bytes are groups of one, two or three bytes, as `DataInput.readUTF` takes them
+abbrev pub groups_from : Option ℕ → List ℕ → Bool
+groups_from None b = false
+groups_from (Some n) [] = n == 0
+groups_from (Some n) (b ∷ bs) = groups_from (still_to_come n b) bs
+
+abbrev pub are_groups : List ℕ → Bool
+are_groups b = groups_from (Some 0) b
+
+-- two bytes of length, and that many bytes, which are groups
+abbrev pub IsText : List ℕ → List ℕ → Type 0
+IsText b s = (h : List ℕ) × (n : ℕ) × Number w16 h n × (length s ≡ n) × (are_groups s ≡ true) × (b ≡ h ++ s)
+
+-- a count that isn't negative, and that many elements of so many bytes
+abbrev pub IsArray : ℕ → List ℕ → List ℕ → Type 0
+IsArray size b s = (h : List ℕ) × (n : ℕ) × Number w32 h n × (n < 2 ^ 31) × (length s ≡ n * size) × (b ≡ h ++ s)
+
+-- a payload with nothing inside
+abbrev pub Leaf : Tag → List ℕ → Plain → Type 0
+Leaf Byte b t = (n : ℕ) × Number w8 b n × (t ≡ plain.byte (cast_signed w8 n))
+Leaf Short b t = (n : ℕ) × Number w16 b n × (t ≡ plain.short (cast_signed w16 n))
+Leaf Int b t = (n : ℕ) × Number w32 b n × (t ≡ plain.int (cast_signed w32 n))
+Leaf Long b t = (n : ℕ) × Number w64 b n × (t ≡ plain.long (cast_signed w64 n))
+Leaf Float b t = (n : ℕ) × Number w32 b n × (t ≡ plain.float n)
+Leaf Double b t = (n : ℕ) × Number w64 b n × (t ≡ plain.double n)
+Leaf Text b t = (s : List ℕ) × IsText b s × (t ≡ plain.text s)
+Leaf ByteArray b t = (s : List ℕ) × IsArray 1 b s × (t ≡ plain.bytes s)
+Leaf IntArray b t = (s : List ℕ) × IsArray 4 b s × (t ≡ plain.ints s)
+Leaf LongArray b t = (s : List ℕ) × IsArray 8 b s × (t ≡ plain.longs s)
+Leaf End b t = ⊥
+Leaf Items b t = ⊥
+Leaf Compound b t = ⊥
+
+-- one payload after another
+abbrev pub Payloads : (List ℕ → Plain → Type 0) → List ℕ → List Plain → Type 0
+Payloads P b [] = b ≡ []
+Payloads P b (t ∷ ts) = (c : List ℕ) × (d : List ℕ) × (b ≡ c ++ d) × P c t × Payloads P d ts
+
+-- an element's tag, a count that isn't negative, and so many payloads; no payload is of the tag End
+abbrev pub IsList : (Tag → List ℕ → Plain → Type 0) → List ℕ → Plain → Type 0
+IsList P b t = (e : Tag) × (h : List ℕ) × (n : ℕ) × (c : List ℕ) × (ts : List Plain)
+    × (b ≡ number_of e ∷ (h ++ c)) × Number w32 h n × (n < 2 ^ 31) × (length ts ≡ n) × Payloads (P e) c ts × (t ≡ plain.list (trees_of ts))
+
+-- named tags, each its number, its name and its payload, and then one End
+abbrev pub Tags : (Tag → List ℕ → Plain → Type 0) → List ℕ → List (List ℕ × Plain) → Type 0
+Tags P b [] = b ≡ 0 ∷ []
+Tags P b (q ∷ qs) = (k : Tag) × (c : List ℕ) × (d : List ℕ) × (e : List ℕ) × (b ≡ number_of k ∷ (c ++ (d ++ e))) × IsText c q.0 × P k d q.1 × Tags P e qs
+
+-- named tags with distinct names: their map has the pairs in the order of the names
+abbrev pub IsCompound : (Tag → List ℕ → Plain → Type 0) → List ℕ → Plain → Type 0
+IsCompound P b t = (qs : List (List ℕ × Plain)) × (ps : List (List ℕ × Plain)) × Tags P b qs × IsPermutation qs ps × IsNamed ps × (t ≡ plain.map (pairs_of ps))
+
+-- a payload in which lists and compounds nest at most so many levels deep
+abbrev pub Payload : ℕ → Tag → List ℕ → Plain → Type 0
+Payload (suc d) Items b t = IsList (Payload d) b t
+Payload (suc d) Compound b t = IsCompound (Payload d) b t
+Payload _ k b t = Leaf k b t
+
+-- a file: one named Compound
+abbrev pub NbtSave : List ℕ → List ℕ → Plain → Type 0
+NbtSave b name t = (c : List ℕ) × (d : List ℕ) × (b ≡ 10 ∷ (c ++ d)) × IsText c name × Payload 512 Compound d t × (length b ≤ 16777216)

@@ -1,14 +1,14 @@
 -- Pairs have one order in which their names ascend, and `gathered` gives it.
-use Rattle.std.proofs.Common.{◌≡◌, ℕ, zero, suc, ◌+◌, ◌<◌, ◌≤◌, ◌||◌, ◌⊎◌, inl, inr, List, [], ◌∷◌, ◌++◌, Bool, true, false, Option, Some, None, Ok, Err, length, map, get_or, refl, sym, ap, subst, ◌∙◌, arith}
+use Rattle.std.proofs.Common.{◌≡◌, ℕ, zero, suc, ◌<◌, ◌||◌, ◌⊎◌, inl, inr, List, [], ◌∷◌, Bool, true, false, Option, Some, None, Ok, Err, length, get_or, refl, sym, ap, subst, ◌∙◌, arith}
 use Rattle.std.specs.Prelude.{IsPermutation, is_some, Contains, slice_get, option_and_then, if◌then◌else◌}
-use Rattle.std.specs.Ordering.{ordering_reverse, is_le, is_eq, eq_by_cmp}
+use Rattle.std.specs.Ordering.{ordering_reverse, is_eq, eq_by_cmp}
 use Rattle.std.specs.declared.cmp.Ordering.{Ordering}
 use Rattle.std.specs.declared.cmp.Ordering.TheVariants.{Less, Equal, Greater}
 use Rattle.std.specs.declared.result.Result.{Result}
 use Rattle.std.specs.List.{AllByRecursion, IsDistinct, insert, list_any}
 use Rattle.std.specs.List.Sorted.{IsStrictlySortedBy}
 use Rattle.std.specs.Map.{keys_of, values_of}
-use Rattle.std.specs.BTreeMap.{insert_entry, is_at}
+use Rattle.std.specs.BTreeMap.{is_at}
 use Rattle.std.proofs.lemmas.Cmp.{nat_list_cmp_total}
 use Rattle.std.proofs.lemmas.List.Sorted.{Contains-permutation, IsPermutation-refl, IsPermutation-sym, IsPermutation-trans, IsPermutation-map, IsPermutation-cons, IsPermutation-insert, list_any-IsPermutation}
 use Rattle.std.proofs.lemmas.Map.Keys.{sorted_head, sorted_tail, IsDistinct-head, IsDistinct-tail, IsDistinct-from_sorted, IsDistinct-IsPermutation}
@@ -60,8 +60,8 @@ same_members (p ∷ a) (q ∷ b) s t f g =
     let above_q = sorted_head by_bytes q.0 (keys_of b) t in
     let first : p ≡ q = one (f p (inl refl)) (g q (inl refl)) above_p above_q in
     λ i. first i ∷ same_members a b (sorted_tail by_bytes p.0 (keys_of a) s) (sorted_tail by_bytes q.0 (keys_of b) t)
-      (λ x m. rest x p q above_p m (sym first) (f x (inr m)))
-      (λ x m. rest' x q p above_q m first (g x (inr m))) i
+    (λ x m. rest x p q above_p m (sym first) (f x (inr m)))
+    (λ x m. rest' x q p above_q m first (g x (inr m))) i
   where
     one : Among p (q ∷ b) → Among q (p ∷ a) → AllByRecursion (λ y. by_bytes p.0 y ≡ Less) (keys_of a) → AllByRecursion (λ y. by_bytes q.0 y ≡ Less) (keys_of b) → p ≡ q
     one (inl e) n h k = sym e
@@ -160,16 +160,16 @@ gathered_if_apart (q ∷ qs) h =
     let rest = gathered_if_apart qs (IsDistinct-tail (eq_by_cmp by_bytes) q.0 (keys_of qs) h) in
     let known = gathered_sound qs rest.0 rest.1 in
     let any : list_any (eq_by_cmp by_bytes q.0) (keys_of rest.0) ≡ false =
-        sym (list_any-IsPermutation (eq_by_cmp by_bytes q.0) (keys_of qs) (keys_of rest.0) (IsPermutation-map (λ p. p.0) qs rest.0 known.0))
-        ∙ none_is_any q.0 (keys_of qs) (IsDistinct-head (eq_by_cmp by_bytes) q.0 (keys_of qs) h) in
+    sym (list_any-IsPermutation (eq_by_cmp by_bytes q.0) (keys_of qs) (keys_of rest.0) (IsPermutation-map (λ p. p.0) qs rest.0 known.0))
+    ∙ none_is_any q.0 (keys_of qs) (IsDistinct-head (eq_by_cmp by_bytes) q.0 (keys_of qs) h) in
     let none : found q.0 rest.0 ≡ None = lookup-none (is_at (by_bytes q.0)) rest.0 (none_passes q.0 rest.0 any) in
     (with_pair q.0 q.1 rest.0, ap (step q) rest.1 ∙ ap (step_at q rest.0) none)
 
 pub gathered_complete : (qs ps : List Pairing) → IsPermutation qs ps → IsNamed ps → gathered qs ≡ Some ps
 gathered_complete qs ps p s =
     let apart : Apart (keys_of qs) =
-        IsDistinct-IsPermutation (eq_by_cmp by_bytes) flips (keys_of ps) (keys_of qs)
-        (IsPermutation-sym (keys_of qs) (keys_of ps) (IsPermutation-map (λ q. q.0) qs ps p)) (IsDistinct-from_sorted by_bytes (keys_of ps) s) in
+    IsDistinct-IsPermutation (eq_by_cmp by_bytes) flips (keys_of ps) (keys_of qs)
+    (IsPermutation-sym (keys_of qs) (keys_of ps) (IsPermutation-map (λ q. q.0) qs ps p)) (IsDistinct-from_sorted by_bytes (keys_of ps) s) in
     let g = gathered_if_apart qs apart in
     let known = gathered_sound qs g.0 g.1 in
     g.1 ∙ ap (λ l. Some l) (one_order qs g.0 ps known.0 p known.1 s)

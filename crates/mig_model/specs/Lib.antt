@@ -3,3 +3,11 @@ pub mod Code
 pub mod Names
 pub mod Kinds
 pub mod Keeps
+pub mod Template
+pub mod Inhabits
+pub mod Treat
+pub mod Function
+pub mod Rule
+pub mod Family
+pub mod Chain
+pub mod Place

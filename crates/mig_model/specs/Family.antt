@@ -1,0 +1,171 @@
+-- Families of named templates: when one is formed, and the family after a fix.
+use Rattle.std.specs.Prelude.{◌≡◌, ℕ, suc, max, List, [], ◌∷◌, length, map, Bool, true, false, not, ◌&&◌, ◌||◌, Option, Some, None, is_some, unwrap_or, nat_lt, if◌then◌else◌}
+use Rattle.std.specs.List.{list_any}
+use Rattle.mig_model.specs.declared.form.Form.{Form}
+use Rattle.mig_model.specs.declared.form.Form.TheVariants as F
+use Rattle.mig_model.specs.declared.kind.Kind.{Kind}
+use Rattle.mig_model.specs.declared.kind.Kind.TheVariants as K
+use Rattle.mig_model.specs.Template.{Template, leaf, any, list, point, rec, sum, Fields, no_field, field, Choice, no_choice, choice, Cases, no_case, case, same_name, is_of_form, is_leaf, has_kind}
+use Rattle.mig_model.specs.Function.{is_field, is_in_choice}
+use Rattle.mig_model.specs.Rule.{Rule, target}
+
+pub record Family : Type 0 where
+  pub form : Form
+  pub version : List ℕ
+  pub types : List (List ℕ × Template)
+  pub root : List ℕ
+
+-- the template of the first such named type
+abbrev pub find_type : List ℕ → List (List ℕ × Template) → Option Template
+find_type n [] = None
+find_type n (t ∷ ts) = if same_name n t.0 then Some t.1 else find_type n ts
+
+abbrev pub is_named : Family → List ℕ → Bool
+is_named f n = is_some (find_type n f.types)
+
+abbrev pub body : Family → List ℕ → Template
+body f n = unwrap_or (find_type n f.types) any
+
+-- the test holds of a template in this one, itself among them
+abbrev mutual
+  pub any_inside : (Template → Bool) → Template → Bool
+  any_inside p (list V) = p (list V) || any_inside p V
+  any_inside p (rec fs c r) = p (rec fs c r) || (any_in_fields p fs || any_in_choice p c)
+  any_inside p (sum V W) = p (sum V W) || (any_inside p V || any_inside p W)
+  any_inside p V = p V
+
+  pub any_in_fields : (Template → Bool) → Fields → Bool
+  any_in_fields p no_field = false
+  any_in_fields p (field x q V fs) = any_inside p V || any_in_fields p fs
+
+  pub any_in_choice : (Template → Bool) → Choice → Bool
+  any_in_choice p no_choice = false
+  any_in_choice p (choice tag cs) = any_in_cases p cs
+
+  pub any_in_cases : (Template → Bool) → Cases → Bool
+  any_in_cases p no_case = false
+  any_in_cases p (case l fs cs) = any_in_fields p fs || any_in_cases p cs
+
+-- how many templates stand on the longest way down, this one counted
+abbrev mutual
+  pub nests : Template → ℕ
+  nests (list V) = suc (nests V)
+  nests (rec fs c r) = suc (max (fields_nest fs) (choice_nests c))
+  nests (sum V W) = suc (max (nests V) (nests W))
+  nests V = 1
+
+  pub fields_nest : Fields → ℕ
+  fields_nest no_field = 0
+  fields_nest (field x p V fs) = max (nests V) (fields_nest fs)
+
+  pub choice_nests : Choice → ℕ
+  choice_nests no_choice = 0
+  choice_nests (choice tag cs) = cases_nest cs
+
+  pub cases_nest : Cases → ℕ
+  cases_nest no_case = 0
+  cases_nest (case l fs cs) = max (fields_nest fs) (cases_nest cs)
+
+-- the root kinds, where a point has those of its named body
+abbrev pub has_kind_in : Family → Template → Kind → Bool
+has_kind_in f (point n) k = has_kind f.form (body f n) k
+has_kind_in f V k = has_kind f.form V k
+
+abbrev pub kinds : List Kind
+kinds = K.Byte ∷ K.Short ∷ K.Int ∷ K.Long ∷ K.Float ∷ K.Double ∷ K.Text ∷ K.Bytes ∷ K.Ints ∷ K.Longs ∷ K.List ∷ K.Map ∷ K.Null ∷ K.Bool ∷ K.Whole ∷ []
+
+abbrev pub is_wrong_leaf : Form → Template → Bool
+is_wrong_leaf form (leaf k) = not (is_leaf k && is_of_form form k)
+is_wrong_leaf form V = false
+
+abbrev pub is_unknown : Family → Template → Bool
+is_unknown f (point n) = not (is_named f n)
+is_unknown f V = false
+
+abbrev pub is_point : Template → Bool
+is_point (point n) = true
+is_point V = false
+
+abbrev pub has_point_side : Template → Bool
+has_point_side (sum V W) = is_point V || is_point W
+has_point_side V = false
+
+abbrev pub sides_overlap : Form → Template → Bool
+sides_overlap form (sum V W) = list_any (λ k. has_kind form V k && has_kind form W k) kinds
+sides_overlap form V = false
+
+-- exactly one kind of the list has the test
+abbrev pub is_one : (Kind → Bool) → List Kind → Bool
+is_one p [] = false
+is_one p (k ∷ ks) = if p k then not (list_any p ks) else is_one p ks
+
+abbrev pub is_mixed : Family → Template → Bool
+is_mixed f (list V) = not (is_one (has_kind_in f V) kinds)
+is_mixed f V = false
+
+abbrev pub is_nbt : Form → Bool
+is_nbt F.Nbt = true
+is_nbt F.Json = false
+
+abbrev pub is_record : Template → Bool
+is_record (rec fs c r) = true
+is_record V = false
+
+abbrev pub uses_name : List ℕ → Template → Bool
+uses_name x (rec fs c r) = is_field x fs || is_in_choice x c
+uses_name x V = false
+
+abbrev pub has_twice : List (List ℕ) → Bool
+has_twice [] = false
+has_twice (n ∷ ns) = list_any (same_name n) ns || has_twice ns
+
+-- the ten faults of a family
+pub data Flaw : Type 0 where
+  twice_named too_many too_deep wrong_kind unknown_name unguarded sum_overlap mixed_list root_not_record version_name_used : Flaw
+
+abbrev pub any_type : (Template → Bool) → Family → Bool
+any_type p f = list_any (λ t. p t.1) f.types
+
+abbrev pub has_flaw : Flaw → Family → Bool
+has_flaw twice_named f = has_twice (map (λ t. t.0) f.types)
+has_flaw too_many f = nat_lt 512 (length f.types)
+has_flaw too_deep f = any_type (λ V. nat_lt 64 (nests V)) f
+has_flaw wrong_kind f = any_type (any_inside (is_wrong_leaf f.form)) f
+has_flaw unknown_name f = any_type (any_inside (is_unknown f)) f || not (is_named f f.root)
+has_flaw unguarded f = any_type (λ V. is_point V || any_inside has_point_side V) f
+has_flaw sum_overlap f = any_type (any_inside (sides_overlap f.form)) f
+has_flaw mixed_list f = is_nbt f.form && any_type (any_inside (is_mixed f)) f
+has_flaw root_not_record f = not (is_record (body f f.root))
+has_flaw version_name_used f = uses_name f.version (body f f.root)
+
+abbrev pub flaws : List Flaw
+flaws = twice_named ∷ too_many ∷ too_deep ∷ wrong_kind ∷ unknown_name ∷ unguarded ∷ sum_overlap ∷ mixed_list ∷ root_not_record ∷ version_name_used ∷ []
+
+-- the first fault in the order of the ten, or none where the family is formed
+abbrev pub first_of : List Flaw → Family → Option Flaw
+first_of [] f = None
+first_of (w ∷ ws) f = if has_flaw w f then Some w else first_of ws f
+
+abbrev pub first_flaw : Family → Option Flaw
+first_flaw f = first_of flaws f
+
+abbrev pub IsFormed : Family → Type 0
+IsFormed f = first_flaw f ≡ None
+
+-- the named types after a rule: those that it fits have the new template
+abbrev pub types_after : Rule → List (List ℕ × Template) → List (List ℕ × Template)
+types_after r ts = map (λ t. (t.0, unwrap_or (target r t.0 t.1) t.1)) ts
+
+abbrev pub after_rule : Rule → Family → Family
+after_rule r f = record { form = f.form; version = f.version; types = types_after r f.types; root = f.root }
+
+-- the rule fits some named type
+abbrev pub fits_some : Rule → Family → Bool
+fits_some r f = list_any (λ t. is_some (target r t.0 t.1)) f.types
+
+-- form, version name, root, the set of names and each body are equal; the order of the types doesn't count
+pub record IsSame (f g : Family) : Type 0 where
+  pub form : f.form ≡ g.form
+  pub version : f.version ≡ g.version
+  pub root : f.root ≡ g.root
+  pub types : (n : List ℕ) → find_type n f.types ≡ find_type n g.types

@@ -1,0 +1,6 @@
+/// Whether a field has to be there.
+#[derive(Clone, Copy, Debug, PartialEq, Eq)]
+pub enum Presence {
+    Must,
+    May,
+}

@@ -1,0 +1,6 @@
+/// Whether names that a record doesn't list may stand in its maps.
+#[derive(Clone, Copy, Debug, PartialEq, Eq)]
+pub enum Rest {
+    Open,
+    Closed,
+}

@@ -1,6 +1,7 @@
 -- Constants and field functions: the new record, and what is done to a map.
-use Rattle.std.specs.Prelude.{ℕ, ℤ, List, [], Bool, false, cond, not, ◌&&◌, ◌||◌, Option, Some, None, if◌then◌else◌}
-use Rattle.std.specs.Ordering.{is_lt}
+use Rattle.std.specs.Prelude.{ℕ, ℤ, List, [], Bool, false, not, ◌&&◌, ◌||◌, Option, Some, None, is_some, option_and_then, if◌then◌else◌}
+use Rattle.std.specs.BTreeMap.{insert_entry, is_at}
+use Rattle.std.specs.Map.{lookup, remove_entry}
 use Rattle.mig_model.specs.declared.kind.Kind.{Kind}
 use Rattle.mig_model.specs.declared.kind.Kind.TheVariants as K
 use Rattle.mig_model.specs.declared.presence.Presence.{Presence}
@@ -8,7 +9,7 @@ use Rattle.mig_model.specs.declared.presence.Presence.TheVariants.{Must}
 use Rattle.mig_model.specs.Plain as plain
 use Rattle.mig_model.specs.Plain.{Plain}
 use Rattle.mig_model.specs.Names.{by_bytes, found, without, with_pair}
-use Rattle.mig_model.specs.Template.{Template, leaf, Fields, no_field, field, Choice, no_choice, choice, Cases, no_case, case, same_name}
+use Rattle.mig_model.specs.Template.{Template, leaf, Fields, fields_of, field_list, Choice, no_choice, choice, Cases, no_case, case, same_name}
 use Rattle.mig_model.specs.Inhabits.{Entries}
 
 -- a constant of a leaf kind; the arrays are empty
@@ -59,10 +60,21 @@ pub data Function : Type 0 where
   rename : List ℕ → List ℕ → Function
   add : List ℕ → Const → Function
 
+-- the presence and template of a field
+abbrev pub find_field : List ℕ → Fields → Option (Presence × Template)
+find_field x fs = lookup (is_at (by_bytes x)) (field_list fs)
+
+-- the fields without a name
+abbrev pub without_field : List ℕ → Fields → Fields
+without_field x fs = fields_of (remove_entry (is_at (by_bytes x)) (field_list fs))
+
+-- one more field, at its place by the order of bytes
+abbrev pub with_field : List ℕ → Presence → Template → Fields → Fields
+with_field x p V fs = fields_of (insert_entry by_bytes (field_list fs) x (p, V))
+
 -- the name is a field
 abbrev pub is_field : List ℕ → Fields → Bool
-is_field x no_field = false
-is_field x (field y p V fs) = same_name x y || is_field x fs
+is_field x fs = is_some (find_field x fs)
 
 abbrev pub is_case_field : List ℕ → Cases → Bool
 is_case_field x no_case = false
@@ -76,27 +88,12 @@ is_in_choice x (choice tag cs) = same_name x tag || is_case_field x cs
 abbrev pub is_free : List ℕ → Fields → Choice → Bool
 is_free x fs c = not (is_field x fs) && not (is_in_choice x c)
 
--- what f makes of the field's presence and template, and a where there is no such field
-abbrev pub with_slot {ℓ} : {A : Type ℓ} → List ℕ → Fields → A → (Presence → Template → A) → A
-with_slot x no_field a f = a
-with_slot x (field y p V fs) a f = cond (same_name x y) (f p V) (with_slot x fs a f)
-
--- the fields without a name
-abbrev pub without_field : List ℕ → Fields → Fields
-without_field x no_field = no_field
-without_field x (field y p V fs) = if same_name x y then without_field x fs else field y p V (without_field x fs)
-
--- one more field, at its place by the order of bytes
-abbrev pub with_field : List ℕ → Presence → Template → Fields → Fields
-with_field x p V no_field = field x p V no_field
-with_field x p V (field y q W fs) = if is_lt (by_bytes x y) then field x p V (field y q W fs) else field y q W (with_field x p V fs)
-
 abbrev pub if_so : {A : Type 0} → Bool → A → Option A
 if_so b a = if b then Some a else None
 
 -- the new common fields, or none where the function doesn't fit
 abbrev pub new_fields : Function → Fields → Choice → Option Fields
-new_fields (rename x y) fs c = with_slot x fs None (λ p V. if_so (is_free y fs c) (with_field y p V (without_field x fs)))
+new_fields (rename x y) fs c = option_and_then (λ slot. if_so (is_free y fs c) (with_field y slot.0 slot.1 (without_field x fs))) (find_field x fs)
 new_fields (add x d) fs c = if_so (is_free x fs c) (with_field x Must (leaf (const_kind d)) fs)
 
 -- a pair is put where there is one

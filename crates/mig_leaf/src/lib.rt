@@ -1,0 +1,6 @@
+//! Constants of leaf kinds.
+#![tactic(auto)]
+
+mod constant;
+
+pub use constant::Const;

@@ -1,0 +1,291 @@
+-- The forms of a token, told by its first byte.
+use Rattle.std.proofs.Common.{zero, suc, ◌≡◌, ◌≢◌, ◌⊎◌, inl, inr, ℕ, ◌<◌, ◌≤◌, ◌^◌, Bool, true, false, cond, ◌&&◌, nat_le, nat_lt, List, [], ◌∷◌, ◌++◌, length, get_or, Option, Some, None, ℤ, nat_abs, bytes_eq, refl, sym, ap, subst, ◌∙◌, arith, ltb-true, leb-true}
+use Rattle.std.proofs.lemmas.Bool.{and_parts}
+use Rattle.std.specs.Cmp.Lexicographic.{same_text}
+use Rattle.std.proofs.lemmas.List.{append_cancel_right}
+use Rattle.std.specs.Str.{chars, IsUtf8}
+use Rattle.std.specs.Fmt.{signed_decimal}
+use Rattle.std.specs.List.{AllByRecursion}
+use Rattle.mig_token.specs.declared.mark.Mark.{Mark}
+use Rattle.mig_token.specs.declared.mark.Mark.TheVariants as M
+use Rattle.mig_token.specs.Spelling.{spelling}
+use Rattle.mig_lex.specs.declared.mark.TheConstants.{MARKS}
+use Rattle.mig_token.specs.Token.{Tok, mark, name, number, text}
+use Rattle.mig_token.specs.Lexical.{IsWhite, IsLetter, IsWordByte, IsWord, IsStringChar, IsToken, a_mark, a_name, a_number, a_string}
+use Rattle.mig_lex.specs.Reading.{IsDigit}
+use Rattle.mig_lex.proofs.Decimals.{signed_first, signed_injective}
+
+abbrev pub first : List ℕ → ℕ
+first b = get_or b 0 0
+
+-- ---- words
+abbrev is_letter : ℕ → Bool
+is_letter c = nat_le 97 c && nat_le c 122
+
+abbrev are_letters : List ℕ → Bool
+are_letters [] = true
+are_letters (c ∷ cs) = is_letter c && are_letters cs
+
+letter : (c : ℕ) → is_letter c ≡ true → IsLetter c
+letter c e = let p = and_parts (nat_le 97 c) (nat_le c 122) e in (leb-true 97 c p.0, leb-true c 122 p.1)
+
+letters : (cs : List ℕ) → are_letters cs ≡ true → AllByRecursion IsWordByte cs
+letters [] e = tt
+letters (c ∷ cs) e = let p = and_parts (is_letter c) (are_letters cs) e in (inl (letter c p.0), letters cs p.1)
+
+abbrev is_plain_word : List ℕ → Bool
+is_plain_word [] = false
+is_plain_word (c ∷ cs) = (is_letter c && are_letters cs) && nat_lt (length cs) 64
+
+plain_word : (b : List ℕ) → is_plain_word b ≡ true → IsWord b
+plain_word [] e = absurd cc
+plain_word (c ∷ cs) e =
+    let p = and_parts (is_letter c && are_letters cs) (nat_lt (length cs) 64) e in
+    let q = and_parts (is_letter c) (are_letters cs) p.0 in
+    (letter c q.0, letters cs q.1, ltb-true (length cs) 64 p.1)
+
+pub word_first : (b : List ℕ) → IsWord b → IsLetter (first b)
+word_first [] w = absurd w
+word_first (c ∷ cs) w = w.0
+
+-- ---- signs
+pub record IsSignByte (c : ℕ) : Type 0 where
+  pub above : 34 < c
+  pub no_minus : c ≢ 45
+  pub no_dot : c ≢ 46
+  pub no_digit : c < 58 → c < 48
+  pub no_letter : c < 123 → c < 97
+
+low_sign : (c : ℕ) → 34 < c → c < 45 → IsSignByte c
+low_sign c p q = record { above = p; no_minus = λ e. omega arith; no_dot = λ e. omega arith; no_digit = λ h. omega arith; no_letter = λ h. omega arith }
+
+middle_sign : (c : ℕ) → 57 < c → c < 97 → IsSignByte c
+middle_sign c p q = record { above = omega arith; no_minus = λ e. omega arith; no_dot = λ e. omega arith; no_digit = λ h. omega arith; no_letter = λ h. omega arith }
+
+high_sign : (c : ℕ) → 122 < c → IsSignByte c
+high_sign c p = record { above = omega arith; no_minus = λ e. omega arith; no_dot = λ e. omega arith; no_digit = λ h. omega arith; no_letter = λ h. omega arith }
+
+-- one byte, or `..`
+abbrev pub IsSign : List ℕ → Type 0
+IsSign b = ((c : ℕ) × (b ≡ c ∷ []) × IsSignByte c) ⊎ (b ≡ 46 ∷ 46 ∷ [])
+
+one_byte : (b : List ℕ) (c : ℕ) → b ≡ c ∷ [] → IsSignByte c → IsWord b ⊎ IsSign b
+one_byte b c e s = inr (inl (c, e, s))
+
+pub word_or_sign : (m : Mark) → IsWord (spelling m) ⊎ IsSign (spelling m)
+word_or_sign M.Equals = one_byte (spelling M.Equals) 61 refl (middle_sign 61 (omega arith) (omega arith))
+word_or_sign M.Colon = one_byte (spelling M.Colon) 58 refl (middle_sign 58 (omega arith) (omega arith))
+word_or_sign M.Comma = one_byte (spelling M.Comma) 44 refl (low_sign 44 (omega arith) (omega arith))
+word_or_sign M.Question = one_byte (spelling M.Question) 63 refl (middle_sign 63 (omega arith) (omega arith))
+word_or_sign M.Open = one_byte (spelling M.Open) 40 refl (low_sign 40 (omega arith) (omega arith))
+word_or_sign M.Close = one_byte (spelling M.Close) 41 refl (low_sign 41 (omega arith) (omega arith))
+word_or_sign M.CurlyOpen = one_byte (spelling M.CurlyOpen) 123 refl (high_sign 123 (omega arith))
+word_or_sign M.CurlyClose = one_byte (spelling M.CurlyClose) 125 refl (high_sign 125 (omega arith))
+word_or_sign M.Dots = inr (inr refl)
+word_or_sign m = inl (plain_word (spelling m) refl)
+
+-- ---- the class of a first byte: a letter, a digit or `-`, a quotation mark, or another
+abbrev pub IsNumberByte : ℕ → Type 0
+IsNumberByte c = IsDigit c ⊎ (c ≡ 45)
+
+pub record IsOther (c : ℕ) : Type 0 where
+  pub letter : IsLetter c → ⊥
+  pub number : IsNumberByte c → ⊥
+  pub quotation : c ≢ 34
+  pub white : IsWhite c → ⊥
+
+sign_byte_other : (c : ℕ) → IsSignByte c → IsOther c
+sign_byte_other c s =
+    let above = s.above in
+    let minus = s.no_minus in
+    let digit = s.no_digit in
+    let alpha = s.no_letter in
+    record {
+      letter = λ l. omega (arith, l, alpha);
+      number = λ n. elim n [ inl d ↦ omega (arith, d, digit) | inr e ↦ minus e ];
+      quotation = λ e. omega arith;
+      white = λ w. elim w [ inl e ↦ omega arith | inr v ↦ elim v [ inl e ↦ omega arith | inr u ↦ elim u [ inl e ↦ omega arith | inr e ↦ omega arith ] ] ];
+    }
+
+pub sign_first : (b : List ℕ) → IsSign b → IsOther (first b)
+sign_first b (inl s) = subst (λ (l : List ℕ). IsOther (first l)) (sym s.1) (sign_byte_other s.0 s.2)
+sign_first b (inr e) = subst (λ (l : List ℕ). IsOther (first l)) (sym e) (record {
+  letter = λ l. omega (arith, l);
+  number = λ n. elim n [ inl d ↦ omega (arith, d) | inr z ↦ omega (arith, z) ];
+  quotation = λ z. omega (arith, z);
+  white = λ w. elim w [ inl z ↦ omega (arith, z) | inr v ↦ elim v [ inl z ↦ omega (arith, z) | inr u ↦ elim u [ inl z ↦ omega (arith, z) | inr z ↦ omega (arith, z) ] ] ];
+})
+
+-- what stands between the quotation marks
+pub record IsText (s : List ℕ) : Type 0 where
+  pub utf8 : IsUtf8 s
+  pub each : AllByRecursion IsStringChar (chars s)
+  pub short : length s ≤ 1024
+
+abbrev pub quoted : List ℕ → List ℕ
+quoted s = 34 ∷ (s ++ 34 ∷ [])
+
+-- the form of a token, with what its bytes are
+pub data Form : List ℕ → Tok → Type 0 where
+  a_word : (b : List ℕ) (t : Tok) → IsWord b → Form b t
+  a_decimal : (b : List ℕ) (z : ℤ) → nat_abs z < 10 ^ 20 → b ≡ signed_decimal z → Form b (number z)
+  a_quoted : (b s : List ℕ) → b ≡ quoted s → IsText s → Form b (text s)
+  a_sign : (b : List ℕ) (m : Mark) → b ≡ spelling m → IsSign b → Form b (mark m)
+
+form_of_mark : (m : Mark) → IsWord (spelling m) ⊎ IsSign (spelling m) → Form (spelling m) (mark m)
+form_of_mark m (inl w) = a_word (spelling m) (mark m) w
+form_of_mark m (inr s) = a_sign (spelling m) m refl s
+
+pub form_of : {b : List ℕ} {t : Tok} → IsToken b t → Form b t
+form_of (a_mark m) = form_of_mark m (word_or_sign m)
+form_of (a_name b w other) = a_word b (name b) w
+form_of (a_number z small) = a_decimal (signed_decimal z) z small refl
+form_of (a_string s utf8 each short) = a_quoted (quoted s) s refl (record { utf8 = utf8; each = each; short = short })
+
+first_quoted : (b s : List ℕ) → b ≡ quoted s → first b ≡ 34
+first_quoted b s e = ap first e
+
+first_number : (b : List ℕ) (z : ℤ) → nat_abs z < 10 ^ 20 → b ≡ signed_decimal z → IsNumberByte (first b)
+first_number b z small e = subst (λ (l : List ℕ). IsNumberByte (first l)) (sym e) (signed_first z small)
+
+no_letter_number : (c : ℕ) → IsLetter c → IsNumberByte c → ⊥
+no_letter_number c l (inl d) = omega (arith, l, d)
+no_letter_number c l (inr e) = omega (arith, l, e)
+
+no_quotation_number : (c : ℕ) → c ≡ 34 → IsNumberByte c → ⊥
+no_quotation_number c q (inl d) = omega (arith, q, d)
+no_quotation_number c q (inr e) = omega (arith, q, e)
+
+pub letter_form : {b : List ℕ} {t : Tok} → Form b t → IsLetter (first b) → IsWord b
+letter_form (a_word b t w) l = w
+letter_form (a_decimal b z small e) l = absurd (no_letter_number (first b) l (first_number b z small e))
+letter_form (a_quoted b s e ok) l = absurd (omega (arith, l, first_quoted b s e))
+letter_form (a_sign b m is s) l = absurd ((sign_first b s).letter l)
+
+pub number_form : {b : List ℕ} {t : Tok} → Form b t → IsNumberByte (first b) → (z : ℤ) × (nat_abs z < 10 ^ 20) × (b ≡ signed_decimal z)
+number_form (a_word b t w) n = absurd (no_letter_number (first b) (word_first b w) n)
+number_form (a_decimal b z small e) n = (z, small, e)
+number_form (a_quoted b s e ok) n = absurd (no_quotation_number (first b) (first_quoted b s e) n)
+number_form (a_sign b m is s) n = absurd ((sign_first b s).number n)
+
+pub quoted_form : {b : List ℕ} {t : Tok} → Form b t → first b ≡ 34 → (s : List ℕ) × (b ≡ quoted s) × IsText s
+quoted_form (a_word b t w) q = absurd (omega (arith, q, word_first b w))
+quoted_form (a_decimal b z small e) q = absurd (no_quotation_number (first b) q (first_number b z small e))
+quoted_form (a_quoted b s e ok) q = (s, e, ok)
+quoted_form (a_sign b m is s) q = absurd ((sign_first b s).quotation q)
+
+pub other_form : {b : List ℕ} {t : Tok} → Form b t → (IsLetter (first b) → ⊥) → (IsNumberByte (first b) → ⊥) → first b ≢ 34 → (m : Mark) × (b ≡ spelling m) × IsSign b
+other_form (a_word b t w) l n q = absurd (l (word_first b w))
+other_form (a_decimal b z small e) l n q = absurd (n (first_number b z small e))
+other_form (a_quoted b s e ok) l n q = absurd (q (first_quoted b s e))
+other_form (a_sign b m is s) l n q = (m, is, s)
+
+-- ---- a token has a byte, and its first is no white space
+number_white : (c : ℕ) → IsNumberByte c → IsWhite c → ⊥
+number_white c (inl d) w = elim w [ inl e ↦ omega (arith, d) | inr v ↦ elim v [ inl e ↦ omega (arith, d) | inr u ↦ elim u [ inl e ↦ omega (arith, d) | inr e ↦ omega (arith, d) ] ] ]
+number_white c (inr m) w = elim w [ inl e ↦ omega (arith, m) | inr v ↦ elim v [ inl e ↦ omega (arith, m) | inr u ↦ elim u [ inl e ↦ omega (arith, m) | inr e ↦ omega (arith, m) ] ] ]
+
+white_small : (c : ℕ) → IsWhite c → c < 33
+white_small c (inl e) = omega arith
+white_small c (inr (inl e)) = omega arith
+white_small c (inr (inr (inl e))) = omega arith
+white_small c (inr (inr (inr e))) = omega arith
+
+form_white : {b : List ℕ} {t : Tok} → Form b t → IsWhite (first b) → ⊥
+form_white (a_word b t w) h = omega (arith, white_small (first b) h, word_first b w)
+form_white (a_decimal b z small e) h = number_white (first b) (first_number b z small e) h
+form_white (a_quoted b s e ok) h = omega (arith, white_small (first b) h, first_quoted b s e)
+form_white (a_sign b m is s) h = (sign_first b s).white h
+
+pub first_not_white : {b : List ℕ} {t : Tok} → IsToken b t → IsWhite (first b) → ⊥
+first_not_white x = form_white (form_of x)
+
+no_byte : (c : ℕ) (cs : List ℕ) → [] ≡ c ∷ cs → ⊥
+no_byte c cs e = cc
+
+form_some : {b : List ℕ} {t : Tok} → Form b t → (b ≡ []) → ⊥
+form_some (a_word b t w) e = let l = word_first b w in let z : first b ≡ 0 = ap first e in omega (arith, l)
+form_some (a_decimal b z small is) e = let n = first_number b z small is in let c : first b ≡ 0 = ap first e in elim n [ inl d ↦ omega (arith, d) | inr m ↦ omega (arith, m) ]
+form_some (a_quoted b s is ok) e = let q = first_quoted b s is in let c : first b ≡ 0 = ap first e in omega (arith, q)
+form_some (a_sign b m is (inl s)) e = no_byte s.0 [] (sym e ∙ s.1)
+form_some (a_sign b m is (inr s)) e = no_byte 46 (46 ∷ []) (sym e ∙ s)
+
+pub has_byte : {b : List ℕ} {t : Tok} → IsToken b t → 0 < length b
+has_byte {b = b} x = some b (form_some (form_of x))
+  where
+    some : (l : List ℕ) → (l ≡ [] → ⊥) → 0 < length l
+    some [] h = absurd (h refl)
+    some (c ∷ cs) h = omega arith
+
+-- ---- a token's bytes have one token
+abbrev spelled_in : List ℕ → List Mark → Option Mark
+spelled_in b [] = None
+spelled_in b (m ∷ ms) = cond (bytes_eq b (spelling m)) (Some m) (spelled_in b ms)
+
+found : (m : Mark) → spelled_in (spelling m) MARKS ≡ Some m
+found M.Form = refl
+found _ = refl
+
+-- no mark is spelled so where none of the list is
+none_spelled : (b : List ℕ) (ms : List Mark) → ((k : ℕ) → k < length ms → b ≢ spelling (get_or ms k M.Form)) → spelled_in b ms ≡ None
+none_spelled b [] other = refl
+none_spelled b (m ∷ ms) other = by (bytes_eq b (spelling m)) refl (none_spelled b ms (λ k h. other (suc k) (omega arith)))
+  where
+    by : (t : Bool) → bytes_eq b (spelling m) ≡ t → spelled_in b ms ≡ None → cond t (Some m) (spelled_in b ms) ≡ None
+    by true e behind = absurd (other zero (omega arith) (same_text b (spelling m) (sym e)))
+    by false e behind = behind
+
+pub no_mark : (b : List ℕ) → ((k : ℕ) → k < 80 → b ≢ spelling (get_or MARKS k M.Form)) → (m : Mark) → b ≢ spelling m
+no_mark b other m e =
+    let both : Some m ≡ None = sym (found m) ∙ ap (λ (l : List ℕ). spelled_in l MARKS) (sym e) ∙ none_spelled b MARKS other in
+    cc
+
+one_mark : (m n : Mark) → spelling m ≡ spelling n → m ≡ n
+one_mark m n e = let both : Some m ≡ Some n = sym (found m) ∙ ap (λ (b : List ℕ). spelled_in b MARKS) e ∙ found n in cc
+
+mark_number : (m : Mark) (z : ℤ) → nat_abs z < 10 ^ 20 → spelling m ≡ signed_decimal z → ⊥
+mark_number m z small e = by (word_or_sign m)
+  where
+    by : IsWord (spelling m) ⊎ IsSign (spelling m) → ⊥
+    by (inl w) = no_letter_number (first (spelling m)) (word_first (spelling m) w) (first_number (spelling m) z small e)
+    by (inr s) = (sign_first (spelling m) s).number (first_number (spelling m) z small e)
+
+mark_quoted : (m : Mark) (s : List ℕ) → spelling m ≡ quoted s → ⊥
+mark_quoted m s e = by (word_or_sign m)
+  where
+    by : IsWord (spelling m) ⊎ IsSign (spelling m) → ⊥
+    by (inl w) = omega (arith, word_first (spelling m) w, first_quoted (spelling m) s e)
+    by (inr g) = (sign_first (spelling m) g).quotation (first_quoted (spelling m) s e)
+
+word_number : (b : List ℕ) (z : ℤ) → nat_abs z < 10 ^ 20 → IsWord b → b ≡ signed_decimal z → ⊥
+word_number b z small w e = no_letter_number (first b) (word_first b w) (first_number b z small e)
+
+word_quoted : (b s : List ℕ) → IsWord b → b ≡ quoted s → ⊥
+word_quoted b s w e = omega (arith, word_first b w, first_quoted b s e)
+
+number_quoted : (z : ℤ) (s : List ℕ) → nat_abs z < 10 ^ 20 → signed_decimal z ≡ quoted s → ⊥
+number_quoted z s small e = no_quotation_number (first (signed_decimal z)) (first_quoted (signed_decimal z) s e) (signed_first z small)
+
+one_text : (s r : List ℕ) → quoted s ≡ quoted r → s ≡ r
+one_text s r e = let t : s ++ 34 ∷ [] ≡ r ++ 34 ∷ [] = cc in append_cancel_right s r (34 ∷ []) t
+
+same_bytes : {b c : List ℕ} {t u : Tok} → IsToken b t → IsToken c u → b ≡ c → t ≡ u
+same_bytes (a_mark m) (a_mark n) e = ap mark (one_mark m n e)
+same_bytes (a_mark m) (a_name c w other) e = absurd (other m (sym e))
+same_bytes (a_mark m) (a_number z small) e = absurd (mark_number m z small e)
+same_bytes (a_mark m) (a_string s utf8 each short) e = absurd (mark_quoted m s e)
+same_bytes (a_name b w other) (a_mark n) e = absurd (other n e)
+same_bytes (a_name b w other) (a_name c v also) e = ap name e
+same_bytes (a_name b w other) (a_number z small) e = absurd (word_number b z small w e)
+same_bytes (a_name b w other) (a_string s utf8 each short) e = absurd (word_quoted b s w e)
+same_bytes (a_number z small) (a_mark n) e = absurd (mark_number n z small (sym e))
+same_bytes (a_number z small) (a_name c w other) e = absurd (word_number c z small w (sym e))
+same_bytes (a_number z small) (a_number y little) e = ap number (signed_injective z y small little e)
+same_bytes (a_number z small) (a_string s utf8 each short) e = absurd (number_quoted z s small e)
+same_bytes (a_string s utf8 each short) (a_mark n) e = absurd (mark_quoted n s (sym e))
+same_bytes (a_string s utf8 each short) (a_name c w other) e = absurd (word_quoted c s w (sym e))
+same_bytes (a_string s utf8 each short) (a_number z small) e = absurd (number_quoted z s small (sym e))
+same_bytes (a_string s utf8 each short) (a_string r utf8' each' short') e = ap text (one_text s r e)
+
+pub one_token : (b c : List ℕ) (t u : Tok) → b ≡ c → IsToken b t → IsToken c u → t ≡ u
+one_token b c t u e x y = same_bytes x y e

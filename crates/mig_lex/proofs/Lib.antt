@@ -1,0 +1,9 @@
+pub mod Lists
+pub mod Fronts
+pub mod Forms
+pub mod Words
+pub mod Decimals
+pub mod Numbers
+pub mod Texts
+pub mod Sequences
+pub mod Cutting

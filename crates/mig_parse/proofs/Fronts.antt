@@ -1,0 +1,152 @@
+-- The tokens at the front that a reader has read.
+use Rattle.std.proofs.Common.{◌≡◌, ◌⊎◌, inl, inr, ℕ, ℤ, List, [], ◌∷◌, ◌++◌, drop, Bool, true, false, cond, Option, Some, None, refl, sym, ap, subst, ◌∙◌, append_assoc, arith}
+use Rattle.std.specs.Prelude.{IfSome}
+use Rattle.std.specs.List.{slice_index_or}
+use Rattle.mig_model.specs.declared.kind.Kind.{Kind}
+use Rattle.mig_model.specs.declared.kind.Kind.TheVariants as K
+use Rattle.mig_token.specs.declared.mark.Mark.{Mark}
+use Rattle.mig_token.specs.declared.mark.Mark.TheVariants as M
+use Rattle.mig_token.specs.Token.{Tok, mark, name, number, text}
+use Rattle.mig_parse.specs.Grammar.{kind_word, optional}
+use Rattle.mig_parse.specs.Reading.{◌>>=◌, if_some, Read, Reader, number_of, begins, behind, optional_at, name_at, text_at, number_at, first_kind}
+
+abbrev pub here : {A : Type 0} → A → List Tok → Read A
+here x rest = Some (x, rest)
+
+pub bind_some : {A B : Type 0} (r : Option A) (f : A → Option B) (y : B) → (r >>= f) ≡ Some y → (x : A) × (r ≡ Some x) × (f x ≡ Some y)
+bind_some (Some x) f y e = (x, refl, e)
+bind_some None f y e = absurd cc
+
+pub one_of : {A B : Type 0} (o : Option A) (f : A → Option B) (r : Option B) (y : Option B) → if_some o f r ≡ y → ((x : A) × (o ≡ Some x) × (f x ≡ y)) ⊎ (r ≡ y)
+one_of (Some x) f r y e = inl (x, refl, e)
+one_of None f r y e = inr e
+
+pub chosen : {A : Type 0} (b : Bool) (x y z : A) → cond b x y ≡ z → ((b ≡ true) × (x ≡ z)) ⊎ ((b ≡ false) × (y ≡ z))
+chosen true x y z e = inl (refl, e)
+chosen false x y z e = inr (refl, e)
+
+pass_some : {A : Type 0} (b : Bool) (r : Option A) (y : A) → cond b r None ≡ Some y → (b ≡ true) × (r ≡ Some y)
+pass_some true r y e = (refl, e)
+pass_some false r y e = absurd cc
+
+pub some_is : {A : Type 0} (x y : A) → Some x ≡ Some y → x ≡ y
+some_is x y e = cc
+
+-- tokens at the front that are in F, and the rest
+pub record Front (F : List Tok → Type 0) (ts rest : List Tok) : Type 0 where
+  pub a : List Tok
+  pub is : ts ≡ a ++ rest
+  pub good : F a
+
+pub moved : {X : Type 0} (F : X → List Tok → Type 0) (u t : X) (a ts mid rest : List Tok) → ts ≡ a ++ mid → F u a → here u mid ≡ here t rest → Front (F t) ts rest
+moved F u t a ts mid rest e p h =
+    let q = some_is (u, mid) (t, rest) h in
+    record { a = a; is = e ∙ ap (λ (x : _). a ++ x.1) q; good = subst (λ (x : _). F x.0 a) q p }
+
+-- what a reader reads is in F
+abbrev pub Sound : {A : Type 0} → Reader A → (List Tok → A → Type 0) → Type 0
+Sound {A} R F = (ts : List Tok) (x : A) (rest : List Tok) → R ts ≡ here x rest → Front (λ a. F a x) ts rest
+
+abbrev marks : List Mark
+marks = M.Form ∷ M.Nbt ∷ M.Json ∷ M.Version ∷ M.Missing ∷ M.Schema ∷ M.Follows ∷ M.Type ∷ M.Root ∷ M.Fix ∷ M.NewType ∷ M.DropType ∷ M.Deep ∷ M.Each ∷ M.Left ∷ M.Right ∷ M.Case ∷ M.Nop ∷ M.All ∷ M.Everywhere ∷ M.On ∷ M.At ∷ M.Seq ∷ M.OrElse ∷ M.In ∷ M.Rename ∷ M.Drop ∷ M.Add ∷ M.Learn ∷ M.Forget ∷ M.Default ∷ M.MayBe ∷ M.Map ∷ M.Nest ∷ M.Unnest ∷ M.Wrap ∷ M.Unify ∷ M.Retag ∷ M.AddCase ∷ M.Or ∷ M.Any ∷ M.List ∷ M.Choice ∷ M.Byte ∷ M.Short ∷ M.Int ∷ M.Long ∷ M.Float ∷ M.Double ∷ M.Text ∷ M.Bytes ∷ M.Ints ∷ M.Longs ∷ M.Null ∷ M.Bool ∷ M.Whole ∷ M.Bits ∷ M.True ∷ M.False ∷ M.Empty ∷ M.Const ∷ M.Plus ∷ M.Times ∷ M.Clamp ∷ M.To ∷ M.ToText ∷ M.OfText ∷ M.Table ∷ M.Prefix ∷ M.Strip ∷ M.Lower ∷ M.Equals ∷ M.Colon ∷ M.Comma ∷ M.Question ∷ M.Open ∷ M.Close ∷ M.CurlyOpen ∷ M.CurlyClose ∷ M.Dots ∷ []
+
+abbrev mark_of : ℕ → Mark
+mark_of n = slice_index_or marks n M.Form
+
+mark_again : (m : Mark) → mark_of (number_of m) ≡ m
+mark_again M.Form = refl
+mark_again _ = refl
+
+pub begins_is : (m : Mark) (ts : List Tok) → begins m ts ≡ true → ts ≡ mark m ∷ drop 1 ts
+begins_is m [] e = absurd cc
+begins_is m (mark n ∷ ts) e =
+    let same : number_of m ≡ number_of n = grind (arith, e) in
+    let eq : m ≡ n = sym (mark_again m) ∙ ap mark_of same ∙ mark_again n in
+    ap (λ (k : Mark). mark k ∷ ts) (sym eq)
+begins_is m (name n ∷ ts) e = absurd cc
+begins_is m (number n ∷ ts) e = absurd cc
+begins_is m (text n ∷ ts) e = absurd cc
+
+pub behind_is : (m : Mark) (ts rest : List Tok) → behind m ts ≡ Some rest → ts ≡ mark m ∷ rest
+behind_is m ts rest e =
+    let p = pass_some (begins m ts) (Some (drop 1 ts)) rest e in
+    begins_is m ts p.0 ∙ ap (λ (l : List Tok). mark m ∷ l) (some_is (drop 1 ts) rest p.1)
+
+pub name_is : (ts : List Tok) (n : List ℕ) (rest : List Tok) → name_at ts ≡ here n rest → ts ≡ name n ∷ rest
+name_is [] n rest e = absurd cc
+name_is (mark m ∷ ts) n rest e = absurd cc
+name_is (name m ∷ ts) n rest e = ap (λ (x : List ℕ × List Tok). name x.0 ∷ x.1) (some_is (m, ts) (n, rest) e)
+name_is (number m ∷ ts) n rest e = absurd cc
+name_is (text m ∷ ts) n rest e = absurd cc
+
+pub text_is : (ts : List Tok) (n : List ℕ) (rest : List Tok) → text_at ts ≡ here n rest → ts ≡ text n ∷ rest
+text_is [] n rest e = absurd cc
+text_is (mark m ∷ ts) n rest e = absurd cc
+text_is (name m ∷ ts) n rest e = absurd cc
+text_is (number m ∷ ts) n rest e = absurd cc
+text_is (text m ∷ ts) n rest e = ap (λ (x : List ℕ × List Tok). text x.0 ∷ x.1) (some_is (m, ts) (n, rest) e)
+
+pub number_is : (ts : List Tok) (z : ℤ) (rest : List Tok) → number_at ts ≡ here z rest → ts ≡ number z ∷ rest
+number_is [] z rest e = absurd cc
+number_is (mark m ∷ ts) z rest e = absurd cc
+number_is (name m ∷ ts) z rest e = absurd cc
+number_is (number m ∷ ts) z rest e = ap (λ (x : ℤ × List Tok). number x.0 ∷ x.1) (some_is (m, ts) (z, rest) e)
+number_is (text m ∷ ts) z rest e = absurd cc
+
+-- the kind word at the front
+pub kind_is : (ts : List Tok) (k : Kind) → first_kind ts ≡ Some k → (m : Mark) × (kind_word m ≡ Some k) × (ts ≡ mark m ∷ drop 1 ts)
+kind_is [] k e = absurd cc
+kind_is (mark m ∷ ts) k e = (m, e, refl)
+kind_is (name m ∷ ts) k e = absurd cc
+kind_is (number m ∷ ts) k e = absurd cc
+kind_is (text m ∷ ts) k e = absurd cc
+
+abbrev pub word_of : Kind → Mark
+word_of K.Byte = M.Byte
+word_of K.Short = M.Short
+word_of K.Int = M.Int
+word_of K.Long = M.Long
+word_of K.Float = M.Float
+word_of K.Double = M.Double
+word_of K.Text = M.Text
+word_of K.Bytes = M.Bytes
+word_of K.Ints = M.Ints
+word_of K.Longs = M.Longs
+word_of K.Null = M.Null
+word_of K.Bool = M.Bool
+word_of K.Whole = M.Whole
+word_of _ = M.Any
+
+by_word : (m : Mark) → IfSome (kind_word m) (λ k. word_of k ≡ m)
+by_word M.Byte = refl
+by_word M.Short = refl
+by_word M.Int = refl
+by_word M.Long = refl
+by_word M.Float = refl
+by_word M.Double = refl
+by_word M.Text = refl
+by_word M.Bytes = refl
+by_word M.Ints = refl
+by_word M.Longs = refl
+by_word M.Null = refl
+by_word M.Bool = refl
+by_word M.Whole = refl
+by_word _ = tt
+
+pub word_is : (m : Mark) (k : Kind) → kind_word m ≡ Some k → word_of k ≡ m
+word_is m k h = subst (λ (o : Option Kind). IfSome o (λ k. word_of k ≡ m)) h (by_word m)
+
+-- tokens, then a mark, then the rest
+pub then_mark : (a ts mid rest : List Tok) (m : Mark) → ts ≡ a ++ mid → mid ≡ mark m ∷ rest → ts ≡ (a ++ mark m ∷ []) ++ rest
+then_mark a ts mid rest m e f = e ∙ ap (λ (l : List Tok). a ++ l) f ∙ sym (append_assoc a (mark m ∷ []) rest)
+
+optional_by : (m : Mark) (b : Bool) (ts : List Tok) → begins m ts ≡ b → ts ≡ optional m (optional_at m ts).0 ++ (optional_at m ts).1
+optional_by m true ts h =
+    let f : optional_at m ts ≡ (true, drop 1 ts) = rw h refl in
+    begins_is m ts h ∙ ap (λ (u : Bool × List Tok). optional m u.0 ++ u.1) (sym f)
+optional_by m false ts h =
+    let f : optional_at m ts ≡ (false, ts) = rw h refl in
+    ap (λ (u : Bool × List Tok). optional m u.0 ++ u.1) (sym f)
+
+pub optional_is : (m : Mark) (ts : List Tok) → ts ≡ optional m (optional_at m ts).0 ++ (optional_at m ts).1
+optional_is m ts = optional_by m (begins m ts) ts refl

@@ -1,0 +1,6 @@
+ghost use Rattle.mig_parse.specs.Law.{HasOneDeclaration};
+
+/// A law: the grammar gives tokens at most one declaration.
+pub fn one_declaration()
+    ensures { HasOneDeclaration }
+{}

@@ -1,0 +1,156 @@
+ghost use Rattle.std.specs.Prelude.{◌≡◌, length, map};
+ghost use Rattle.mig_token.specs.Token.{toks};
+ghost use Rattle.mig_parse.specs.TemplateView.{template_of, field_of};
+ghost use Rattle.mig_parse.specs.Reading.{Gives, field_at, members_at, record_at, compound_at, part_at, template_at};
+
+use crate::error::ParseError;
+use crate::template::{FieldList, FieldText, RecordText, TemplateBox, TemplateText};
+use crate::tokens::{begins, behind, behind_first, first_kind, name_at, optional_at, text_at};
+use mig_token::{Mark, Token};
+use std::alloc::Global;
+
+/// A field, whose template has so many levels at most.
+#[cycle(part)]
+#[tactic(auto, unfolding(crate::specs::Reading::field_at))]
+fn field_at<'a, 't>(
+    alloc: Global,
+    levels: u32,
+    tokens: &'a [Token<'t>],
+) -> Result<(FieldText, &'a [Token<'t>]), ParseError>
+    ensures { Gives (λ x. (field_of x.0, toks x.1.now)) result (field_at (template_at levels) (toks tokens.now)) }
+{
+    let (name, rest) = text_at(alloc, tokens)?;
+    let (may, rest) = optional_at(Mark::Question, rest);
+    let rest = behind(Mark::Colon, rest)?;
+    let (template, rest) = template_at(alloc, levels, rest)?;
+    Ok((
+        FieldText {
+            name,
+            may,
+            template,
+        },
+        rest,
+    ))
+}
+
+/// The members up to the `}`, and whether `..` is the last. Each turn takes a token at least, so the count of the tokens bounds the turns.
+#[cycle(part)]
+fn members_at<'a, 't>(
+    alloc: Global,
+    levels: u32,
+    tokens: &'a [Token<'t>],
+) -> Result<(Vec<FieldText>, bool, &'a [Token<'t>]), ParseError>
+    ensures { Gives (λ x. ((map field_of x.0.items, x.1), toks x.2.now)) result
+        (members_at (template_at levels) (length tokens.now) (toks tokens.now)) }
+{
+    let mut fields = Vec::new(alloc);
+    let mut rest = tokens;
+    for _ in 0..tokens.len() {
+        if begins(Mark::Dots, rest) {
+            return Ok((fields, true, behind_first(rest)));
+        }
+        let (field, after) = field_at(alloc, levels, rest)?;
+        fields.push(field)?;
+        if !begins(Mark::Comma, after) {
+            return Ok((fields, false, after));
+        }
+        rest = behind_first(after);
+    }
+    Err(ParseError::Wrong)
+}
+
+/// A record behind its `{`.
+#[cycle(part)]
+#[tactic(auto, unfolding(crate::specs::Reading::record_at))]
+fn record_at<'a, 't>(
+    alloc: Global,
+    levels: u32,
+    tokens: &'a [Token<'t>],
+) -> Result<(TemplateText, &'a [Token<'t>]), ParseError>
+    ensures { Gives (λ x. (template_of x.0, toks x.1.now)) result (record_at (template_at levels) (toks tokens.now)) }
+{
+    if begins(Mark::CurlyClose, tokens) {
+        let fields = FieldList::new(Vec::new(alloc));
+        let record = RecordText {
+            fields,
+            dots: false,
+        };
+        return Ok((TemplateText::Rec(record), behind_first(tokens)));
+    }
+    let (list, dots, rest) = members_at(alloc, levels, tokens)?;
+    let rest = behind(Mark::CurlyClose, rest)?;
+    let fields = FieldList::new(list);
+    Ok((TemplateText::Rec(RecordText { fields, dots }), rest))
+}
+
+/// A part that no kind word begins, with so many levels below it.
+#[cycle(part)]
+#[tactic(auto, unfolding(crate::specs::Reading::compound_at))]
+fn compound_at<'a, 't>(
+    alloc: Global,
+    levels: u32,
+    tokens: &'a [Token<'t>],
+) -> Result<(TemplateText, &'a [Token<'t>]), ParseError>
+    ensures { Gives (λ x. (template_of x.0, toks x.1.now)) result
+        (compound_at (part_at levels) (template_at levels) (toks tokens.now)) }
+{
+    if begins(Mark::Any, tokens) {
+        return Ok((TemplateText::Any, behind_first(tokens)));
+    }
+    if begins(Mark::List, tokens) {
+        let (part, rest) = part_at(alloc, levels, behind_first(tokens))?;
+        return Ok((TemplateText::List(TemplateBox::new(alloc, part)?), rest));
+    }
+    if begins(Mark::CurlyOpen, tokens) {
+        return record_at(alloc, levels, behind_first(tokens));
+    }
+    if begins(Mark::Open, tokens) {
+        let (template, rest) = template_at(alloc, levels, behind_first(tokens))?;
+        let rest = behind(Mark::Close, rest)?;
+        return Ok((template, rest));
+    }
+    let (name, rest) = name_at(alloc, tokens)?;
+    Ok((TemplateText::Point(name), rest))
+}
+
+/// A part, which has so many levels at most.
+#[cycle(part)]
+#[tactic(auto, unfolding(crate::specs::Reading::part_at))]
+pub(crate) fn part_at<'a, 't>(
+    alloc: Global,
+    levels: u32,
+    tokens: &'a [Token<'t>],
+) -> Result<(TemplateText, &'a [Token<'t>]), ParseError>
+    ensures { Gives (λ x. (template_of x.0, toks x.1.now)) result (part_at levels (toks tokens.now)) }
+{
+    if levels == 0 {
+        return Err(ParseError::Wrong);
+    }
+    match first_kind(tokens) {
+        Some(kind) => Ok((TemplateText::Leaf(kind), behind_first(tokens))),
+        None => compound_at(alloc, levels - 1, tokens),
+    }
+}
+
+/// A template, which has so many levels at most. Each `or` takes one.
+#[cycle(part)]
+#[tactic(auto, unfolding(crate::specs::Reading::template_at))]
+pub(crate) fn template_at<'a, 't>(
+    alloc: Global,
+    levels: u32,
+    tokens: &'a [Token<'t>],
+) -> Result<(TemplateText, &'a [Token<'t>]), ParseError>
+    ensures { Gives (λ x. (template_of x.0, toks x.1.now)) result (template_at levels (toks tokens.now)) }
+{
+    if levels == 0 {
+        return Err(ParseError::Wrong);
+    }
+    let (part, rest) = part_at(alloc, levels, tokens)?;
+    if !begins(Mark::Or, rest) {
+        return Ok((part, rest));
+    }
+    let (template, rest) = template_at(alloc, levels - 1, behind_first(rest))?;
+    let left = TemplateBox::new(alloc, part)?;
+    let right = TemplateBox::new(alloc, template)?;
+    Ok((TemplateText::Sum(left, right), rest))
+}

@@ -1,0 +1,133 @@
+ghost use Rattle.std.specs.Prelude.{◌≡◌, map, IfOk};
+
+use mig_model::{Kind, Name};
+use std::alloc::{AllocFailed, Global};
+use std::marker::Model;
+
+/// The syntax of a template.
+#[cycle(template)]
+#[derive(Debug, Drop)]
+pub enum TemplateText {
+    /// A kind word. `List` and `Map` are none.
+    Leaf(Kind),
+    Any,
+    List(TemplateBox),
+    Rec(RecordText),
+    /// The name of a type.
+    Point(Name),
+    /// The parts before and after the first `or`.
+    Sum(TemplateBox, TemplateBox),
+}
+
+/// The syntax of a template, on the heap.
+#[cycle(template)]
+#[derive(Debug, Drop)]
+pub struct TemplateBox {
+    template: Box<TemplateText>,
+}
+
+/// The syntax of a record.
+#[cycle(template)]
+#[derive(Debug, Drop)]
+pub struct RecordText {
+    pub fields: FieldList,
+    /// Whether `..` stands.
+    pub dots: bool,
+}
+
+/// The syntax of a field.
+#[cycle(template)]
+#[derive(Debug, Drop)]
+pub struct FieldText {
+    pub name: Name,
+    /// Whether `?` stands.
+    pub may: bool,
+    pub template: TemplateText,
+}
+
+/// The fields of a record, as they stand in the text. Their names may repeat.
+#[cycle(template)]
+#[derive(Debug, Drop)]
+pub struct FieldList {
+    list: Vec<FieldText>,
+}
+
+impl Model for TemplateBox {
+    ghost use Rattle.mig_parse.specs.TemplateSyntax.{TemplateSyntax, template_size};
+    ghost use Rattle.mig_parse.specs.TemplateCode.{coded_template};
+
+    ghost Value = { TemplateSyntax };
+
+    ghost coded = { coded_template };
+
+    ghost use Rattle.mig_parse.specs.TemplateView.{template_of};
+
+    ghost view = { λ a. template_of a.template.value };
+
+    ghost size = { template_size };
+
+    ghost use Rattle.std.proofs.Common.{arith};
+    ghost use Rattle.mig_parse.specs.TemplateFalls.{depth_template};
+
+    ghost size_decreases = { λ a h. omega (arith, depth_template a.template.value) };
+}
+
+impl Model for FieldList {
+    ghost use Rattle.std.specs.Prelude.{List, map};
+    ghost use Rattle.mig_parse.specs.TemplateSyntax.{FieldSyntax, field_list_size};
+    ghost use Rattle.mig_parse.specs.TemplateCode.{coded_field_list};
+
+    ghost Value = { List FieldSyntax };
+
+    ghost coded = { coded_field_list };
+
+    ghost use Rattle.mig_parse.specs.TemplateView.{field_of};
+
+    ghost view = { λ a. map field_of a.list.items };
+
+    ghost size = { field_list_size };
+
+    ghost use Rattle.std.proofs.Common.{arith};
+    ghost use Rattle.mig_parse.specs.TemplateFalls.{depth_fields};
+
+    ghost size_decreases = { λ a h. omega (arith, depth_fields a.list.items) };
+}
+
+impl TemplateBox {
+    ghost use Rattle.mig_parse.specs.TemplateView.{template_of};
+
+    pub(crate) fn new(
+        alloc: Global,
+        template: TemplateText,
+    ) -> Result<TemplateBox, AllocFailed<TemplateText>>
+        ensures { IfOk result (λ b. b ≡ template_of template) }
+    {
+        Ok(TemplateBox {
+            template: Box::new(alloc, template)?,
+        })
+    }
+
+    /// The template itself.
+    pub fn get(&self) -> &TemplateText
+        ensures { template_of result.now ≡ self.now }
+    {
+        &*self.template
+    }
+}
+
+impl FieldList {
+    ghost use Rattle.mig_parse.specs.TemplateView.{field_of};
+
+    pub(crate) fn new(list: Vec<FieldText>) -> FieldList
+        ensures { result ≡ map field_of list.items }
+    {
+        FieldList { list }
+    }
+
+    /// The fields in order.
+    pub fn as_slice(&self) -> &[FieldText]
+        ensures { map field_of result.now ≡ self.now }
+    {
+        self.list.as_slice()
+    }
+}

@@ -103,5 +103,5 @@ bring x (Some t) es = with_pair x t es
 
 -- what a function does to a map that it fits: a name that is brought in is first taken out
 abbrev pub act_on : Function → Entries → Entries
-act_on (rename x y) es = bring y (found x es) (without x (without y es))
+act_on (rename x y) es = bring y (found x es) (without y (without x es))
 act_on (add x d) es = with_pair x (const_tree d) (without x es)

@@ -1,0 +1,22 @@
+//! Files in folders and takers of bytes, over memory and over the host, with the counts of their faults.
+#![tactic(auto)]
+
+mod failing;
+mod faults;
+mod files;
+mod host_files;
+mod host_sink;
+mod memory_files;
+mod memory_sink;
+mod sink;
+
+pub use faults::{FileFault, SinkFault};
+pub use files::Files;
+pub use host_files::HostFiles;
+pub use host_sink::HostSink;
+pub use memory_files::MemoryFiles;
+pub use memory_sink::MemorySink;
+pub use sink::Sink;
+
+#[cfg(test)]
+mod tests;

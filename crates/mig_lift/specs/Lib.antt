@@ -1,0 +1,5 @@
+pub mod Lift
+pub mod View
+pub mod Setting
+pub mod Writable
+pub mod FirstWrong

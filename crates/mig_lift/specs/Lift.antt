@@ -1,0 +1,94 @@
+-- What becomes of one save.
+use Rattle.std.specs.Prelude.{ℕ, ℤ, pos, negsuc, List, Option, Some, None, Result, Ok, Err, nat_lt, nat_le, if◌then◌else◌}
+use Rattle.mig_model.specs.declared.form.Form.{Form}
+use Rattle.mig_model.specs.declared.form.Form.TheVariants as F
+use Rattle.mig_model.specs.Plain as plain
+use Rattle.mig_model.specs.Plain.{Plain}
+use Rattle.mig_model.specs.Kinds.{get_in, put_in, removed}
+use Rattle.mig_model.specs.Family.{Family}
+use Rattle.mig_model.specs.Place.{Place, place}
+use Rattle.mig_model.specs.Chain.{Chain, last_version, floor_family, fixed}
+use Rattle.mig_nbt.specs.Reading.{save_at}
+use Rattle.mig_nbt.specs.Writing.{save_text}
+use Rattle.mig_lift.specs.declared.fault.VersionKind.{VersionKind}
+use Rattle.mig_lift.specs.declared.fault.VersionKind.TheVariants as V
+
+-- a lifted save: what is written for it, and its version before
+pub record Save : Type 0 where
+  pub bytes : List ℕ
+  pub version : ℕ
+
+-- why a save is refused
+pub data Cause : Type 0 where
+  bytes : Cause
+  version : VersionKind → Cause
+  schema : Place → Cause
+
+-- the root's name and the tree of a file, or none where the bytes are no file of the form; the name is empty in the JSON form
+abbrev pub decode : Form → List ℕ → Option (List ℕ × Plain)
+decode F.Nbt b = save_at b
+decode F.Json b = None
+
+-- the canonical text
+abbrev pub encode : Form → List ℕ → Plain → List ℕ
+encode F.Nbt name t = save_text name t
+encode F.Json name t = save_text name t
+
+-- a version is an Int (NBT) or a Whole (JSON) from 0 to the last version
+abbrev pub counted : ℕ → Result ℕ VersionKind
+counted n = if nat_le n last_version then Ok n else Err V.Wrong
+
+abbrev pub number_in : Form → Plain → Result ℕ VersionKind
+number_in F.Nbt (plain.int (pos n)) = counted n
+number_in F.Json (plain.whole (pos n)) = counted n
+number_in form t = Err V.Wrong
+
+abbrev pub or_missing : Option ℕ → Result ℕ VersionKind
+or_missing None = Err V.Absent
+or_missing (Some n) = Ok n
+
+abbrev pub version_at : Chain → Option Plain → Result ℕ VersionKind
+version_at c None = or_missing c.missing
+version_at c (Some t) = number_in c.form t
+
+-- the version of a save's tree: that under the version name, or else the `missing` number
+abbrev pub version_of : Chain → Plain → Result ℕ VersionKind
+version_of c t = version_at c (get_in c.version t)
+
+abbrev pub version_tree : Form → ℕ → Plain
+version_tree F.Nbt n = plain.int (pos n)
+version_tree F.Json n = plain.whole (pos n)
+
+-- the tree without the version name, after the fixes, with the target under the version name; and the save's version
+abbrev pub lifted_from : Chain → ℕ → Plain → ℕ → Plain × ℕ
+lifted_from c target t v = (put_in c.version (version_tree c.form target) (fixed c v target (removed c.version t)), v)
+
+-- the first wrong place refuses
+abbrev pub placed : Chain → ℕ → Plain → ℕ → Option Place → Result (Plain × ℕ) Cause
+placed c target t v None = Ok (lifted_from c target t v)
+placed c target t v (Some p) = Err (schema p)
+
+-- by the family of the greatest schema not above the version
+abbrev pub floored : Chain → ℕ → Plain → ℕ → Option Family → Result (Plain × ℕ) Cause
+floored c target t v None = Err (version (V.Below v))
+floored c target t v (Some f) = if nat_lt target v then Err (version (V.Above v)) else placed c target t v (place f f.root (removed c.version t))
+
+abbrev pub versioned : Chain → ℕ → Plain → Result ℕ VersionKind → Result (Plain × ℕ) Cause
+versioned c target t (Err k) = Err (version k)
+versioned c target t (Ok v) = floored c target t v (floor_family c v)
+
+-- what becomes of the tree of a save: the first cause that holds from the version on, or the lifted tree and the version before
+unfoldable pub lift_tree : Chain → ℕ → Plain → Result (Plain × ℕ) Cause
+lift_tree c target t = versioned c target t (version_of c t)
+
+abbrev pub encoded : Form → List ℕ → Result (Plain × ℕ) Cause → Result Save Cause
+encoded form name (Ok x) = Ok (record { bytes = encode form name x.0; version = x.1 })
+encoded form name (Err cause) = Err cause
+
+abbrev pub decoded : Chain → ℕ → Option (List ℕ × Plain) → Result Save Cause
+decoded c target None = Err bytes
+decoded c target (Some x) = encoded c.form x.0 (lift_tree c target x.1)
+
+-- what becomes of the bytes of a save: the first cause that holds, or the canonical text of the lifted tree
+unfoldable pub lift : Chain → ℕ → List ℕ → Result Save Cause
+lift c target b = decoded c target (decode c.form b)

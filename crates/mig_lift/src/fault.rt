@@ -1,0 +1,55 @@
+ghost use Rattle.std.specs.Prelude.{◌≡◌};
+ghost use Rattle.mig_lift.specs.declared.fault.LiftFault.TheVariants as fault;
+
+use mig_tree::{Memory, Place};
+use std::alloc::{AllocError, AllocFailed};
+
+/// Why a save's version is refused: it isn't there, it is no number of a version, or it is below the first schema or above the target.
+#[derive(Clone, Copy, Debug, PartialEq, Eq)]
+pub enum VersionKind {
+    Absent,
+    Wrong,
+    Below(u32),
+    Above(u32),
+}
+
+/// Why a save isn't lifted.
+#[derive(Debug, Drop)]
+pub enum LiftFault {
+    /// The bytes are no file of the chain's form.
+    Bytes,
+    Version(VersionKind),
+    /// The save doesn't fit its schema; the place is the first wrong one.
+    Schema(Place),
+    Memory,
+}
+
+/// Why there is no migrator: the target is below this version, the first schema's.
+#[derive(Clone, Copy, Debug, PartialEq, Eq)]
+pub enum NewFault {
+    TargetBelow(u32),
+}
+
+impl From<Memory> for LiftFault {
+    ghost from_gives = { λ _ e. e ≡ fault.Memory };
+
+    fn from(_: Memory) -> Self {
+        LiftFault::Memory
+    }
+}
+
+impl From<AllocError> for LiftFault {
+    ghost from_gives = { λ _ e. e ≡ fault.Memory };
+
+    fn from(_: AllocError) -> Self {
+        LiftFault::Memory
+    }
+}
+
+impl<T: Drop> From<AllocFailed<T>> for LiftFault {
+    ghost from_gives = { λ _ e. e ≡ fault.Memory };
+
+    fn from(_: AllocFailed<T>) -> Self {
+        LiftFault::Memory
+    }
+}

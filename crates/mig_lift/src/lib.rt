@@ -1,0 +1,11 @@
+//! Lifting one save from its version to a target.
+#![tactic(auto)]
+
+mod fault;
+mod migrator;
+mod version;
+
+pub use fault::{LiftFault, NewFault, VersionKind};
+pub use mig_small::{SmallChain, SmallFault, read_small};
+pub use migrator::Migrator;
+pub use version::LAST_VERSION;

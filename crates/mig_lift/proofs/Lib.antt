@@ -1,0 +1,7 @@
+pub mod Edits
+pub mod OpenRecord
+pub mod Accepted
+pub mod Outcome
+pub mod Names
+pub mod Written
+pub mod Decoded

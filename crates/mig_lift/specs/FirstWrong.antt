@@ -1,5 +1,5 @@
 -- The first wrong place of a map at an open record of leaves.
-use Rattle.std.specs.Prelude.{ℕ, List, [], ◌∷◌, Bool, false, Option, Some, None, if◌then◌else◌}
+use Rattle.std.specs.Prelude.{List, [], ◌∷◌, Bool, false, Option, Some, None, if◌then◌else◌}
 use Rattle.mig_model.specs.declared.kind.Kind.{Kind}
 use Rattle.mig_model.specs.Plain.{Plain}
 use Rattle.mig_model.specs.Kinds.{kind_of, get_in}

@@ -6,7 +6,6 @@ use Rattle.mig_tree.specs.declared.place.Step.{Step}
 use Rattle.mig_tree.specs.declared.place.Step.TheVariants as S
 use Rattle.mig_tree.specs.declared.tree.Tree.{Tree}
 use Rattle.mig_tree.specs.View.{plain_of}
-use Rattle.mig_lift.specs.declared.fault.VersionKind.{VersionKind}
 use Rattle.mig_lift.specs.declared.fault.LiftFault.{LiftFault}
 use Rattle.mig_lift.specs.declared.fault.LiftFault.TheVariants as fault
 use Rattle.mig_lift.specs.Lift.{Save, Cause, bytes, version, schema}

@@ -6,4 +6,4 @@ use Rattle.mig_nbt.specs.Writing.{IsSpelled}
 
 abbrev pub IsWritable : Form → Plain → Type 0
 IsWritable F.Nbt t = IsSpelled t
-IsWritable F.Json t = IsSpelled t
+IsWritable F.Json t = ⊥

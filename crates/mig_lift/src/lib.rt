@@ -2,7 +2,10 @@
 #![tactic(auto)]
 
 mod fault;
+mod fix;
+mod lifting;
 mod migrator;
+mod place;
 mod version;
 
 pub use fault::{LiftFault, NewFault, VersionKind};

@@ -1,12 +1,10 @@
 ghost use Rattle.std.specs.Prelude.{◌≡◌, ◌≤◌, ◌<◌, IfOk, MatchResult};
-ghost use Rattle.mig_tree.specs.View.{plain_of};
-ghost use Rattle.mig_model.specs.Kinds.{IsMap};
 ghost use Rattle.mig_small.specs.Small.{chain_of};
 ghost use Rattle.mig_lift.specs.declared.fault.NewFault.TheVariants.{TargetBelow};
-ghost use Rattle.mig_lift.specs.Lift.{lift, lift_tree};
-ghost use Rattle.mig_lift.specs.View.{Lifts, LiftsTree};
-ghost use Rattle.mig_lift.specs.Writable.{IsWritable};
+ghost use Rattle.mig_lift.specs.Lift.{lift};
+ghost use Rattle.mig_lift.specs.View.{Lifts};
 
+use crate::lifting::lift_bytes;
 use crate::{LiftFault, NewFault};
 use mig_model::Form;
 use mig_small::SmallChain;
@@ -65,13 +63,13 @@ impl Migrator {
     /// Lifts a save: its canonical text with the target's version, and the version before. Each refusal is the first cause that holds.
     pub fn lift<L: Ledger>(
         &self,
-        _alloc: Global,
+        alloc: Global,
         bytes: &[u8],
         steps: &mut Steps<L>,
     ) -> Result<(Vec<u8>, u32), LiftFault>
         ensures lifts { Lifts result (lift (chain_of self.now.chain) self.now.target bytes.now) }
         ensures count { steps.new ≡ steps.old }
     {
-        Err(LiftFault::Memory)
+        lift_bytes(alloc, &self.chain, self.target, bytes)
     }
 }

@@ -1,6 +1,6 @@
 -- What is read is spelled so, and what is spelled so is read.
 use Rattle.std.proofs.Common.{◌≡◌, ◌⊎◌, inl, inr, ℕ, zero, suc, ◌*◌, ◌^◌, ◌≤◌, List, [], ◌∷◌, ◌++◌, length, take, drop, Bool, true, false, cond, Option, Some, None, refl, sym, ap, subst, ◌∙◌, append_assoc, arith}
-use Rattle.std.specs.Prelude.{nat_lt, nat_le, ◌==◌}
+use Rattle.std.specs.Prelude.{nat_lt, nat_le, ◌||◌, ◌==◌}
 use Rattle.std.specs.Int.{Width, w8, w16, w32, w64, byte_len, from_be_bytes, cast_signed}
 use Rattle.std.proofs.lemmas.Bool.{ltb-false, le-ltb, lt-leb, leb-false}
 use Rattle.std.proofs.lemmas.List.{take_at, drop_at, take-append-drop, length-append, length-take, append-nil}
@@ -107,30 +107,36 @@ then_part : (bytes b middle c rest : List ℕ) → bytes ≡ b ++ middle → mid
 then_part bytes b middle c rest p q = p ∙ ap (λ (l : List ℕ). b ++ l) q ∙ sym (append_assoc b c rest)
 
 -- ---- texts and arrays
+neither : (a b : Bool) → (a || b) ≡ false → (a ≡ false) × (b ≡ false)
+neither false b e = (refl, e)
+neither true b e = absurd cc
+
 text_sound : (bytes s rest : List ℕ) → text_at bytes ≡ Some (s, rest) → InFront (λ b. IsText b s) bytes rest
 unfolding text_at
 text_sound bytes s rest e =
-    let b = bind_some (number_at w16 bytes) (λ n. cond (nat_lt (length n.1) n.0) None (cond (are_groups (take n.0 n.1)) (Some (take n.0 n.1, drop n.0 n.1)) None)) (s, rest) e in
+    let b = bind_some (number_at w16 bytes) (λ n. cond (nat_le (2 ^ 16) n.0 || nat_lt (length n.1) n.0) None (cond (are_groups (take n.0 n.1)) (Some (take n.0 n.1, drop n.0 n.1)) None)) (s, rest) e in
     let n = b.0.0 in
     let l = b.0.1 in
     let h = number_sound w16 bytes n l b.1 in
-    let g = guard_some (nat_lt (length l) n) (cond (are_groups (take n l)) (Some (take n l, drop n l)) None) (s, rest) b.2 in
+    let g = guard_some (nat_le (2 ^ 16) n || nat_lt (length l) n) (cond (are_groups (take n l)) (Some (take n l, drop n l)) None) (s, rest) b.2 in
+    let neither_is = neither (nat_le (2 ^ 16) n) (nat_lt (length l) n) g.0 in
     let u = pass_some (are_groups (take n l)) (Some (take n l, drop n l)) (s, rest) g.1 in
-    let long : n ≤ length l = ltb-false (length l) n g.0 in
+    let long : n ≤ length l = ltb-false (length l) n neither_is.1 in
     let v : take n l ≡ s = value_is (take n l) (drop n l) s rest u.1 in
     let r : drop n l ≡ rest = rest_is (take n l) (drop n l) s rest u.1 in
     let parts : l ≡ s ++ rest = sym (take-append-drop n l) ∙ (λ i. v i ++ r i) in
     let len : length s ≡ n = ap length (sym v) ∙ omega (arith, length-take n l) in
-    (h.0 ++ s, then_part bytes h.0 l s rest h.1 parts, (h.0, n, h.2, len, sym (ap are_groups v) ∙ u.0, refl))
+    (h.0 ++ s, then_part bytes h.0 l s rest h.1 parts, (h.0, n, h.2, leb-false (2 ^ 16) n neither_is.0, len, sym (ap are_groups v) ∙ u.0, refl))
 
 text_complete : (b s rest : List ℕ) → IsText b s → text_at (b ++ rest) ≡ Some (s, rest)
 unfolding text_at
 text_complete b s rest p =
     let h = p.0 in
     let n = p.1 in
-    let whole : b ++ rest ≡ h ++ (s ++ rest) = ap (λ (l : List ℕ). l ++ rest) p.5 ∙ append_assoc h s rest in
-    let long : nat_lt (length (s ++ rest)) n ≡ false = le-ltb _ _ (omega (arith, length-append s rest, p.3)) in
-    rw (whole, number_complete w16 h n (s ++ rest) p.2, long, take_at s rest n p.3, drop_at s rest n p.3, p.4) refl
+    let whole : b ++ rest ≡ h ++ (s ++ rest) = ap (λ (l : List ℕ). l ++ rest) p.6 ∙ append_assoc h s rest in
+    let few : nat_le (2 ^ 16) n ≡ false = lt-leb _ _ p.3 in
+    let long : nat_lt (length (s ++ rest)) n ≡ false = le-ltb _ _ (omega (arith, length-append s rest, p.4)) in
+    rw (whole, number_complete w16 h n (s ++ rest) p.2, few, long, take_at s rest n p.4, drop_at s rest n p.4, p.5) refl
 
 array_sound : (size : ℕ) (bytes s rest : List ℕ) → array_at size bytes ≡ Some (s, rest) → InFront (λ b. IsArray size b s) bytes rest
 unfolding array_at

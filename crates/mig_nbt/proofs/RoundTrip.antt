@@ -36,7 +36,7 @@ leaf_any (suc d) T.Compound b t p = absurd p
 leaf_any (suc d) _ b t p = p
 
 is_text : (s : List ℕ) → IsName s → IsText (text_bytes s) s
-is_text s p = (to_be_bytes w16 (length s), length s, number16 (length s) p.1, refl, p.0, refl)
+is_text s p = (to_be_bytes w16 (length s), length s, number16 (length s) p.1, p.1, refl, p.0, refl)
 
 elements : (size : ℕ) (x : List ℕ) (n m : ℕ) → length x ≡ n * size → m ≡ n → n < 2 ^ 31 → IsArray size (to_be_bytes w32 m ++ x) x
 elements size x n m e same l = (to_be_bytes w32 m, m, number32 m (omega arith), omega arith, e ∙ ap (λ (k : ℕ). k * size) (sym same), refl)

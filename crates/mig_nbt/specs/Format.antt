@@ -46,7 +46,7 @@ are_groups b = groups_from (Some 0) b
 
 -- two bytes of length, and that many bytes, which are groups
 abbrev pub IsText : List ℕ → List ℕ → Type 0
-IsText b s = (h : List ℕ) × (n : ℕ) × Number w16 h n × (length s ≡ n) × (are_groups s ≡ true) × (b ≡ h ++ s)
+IsText b s = (h : List ℕ) × (n : ℕ) × Number w16 h n × (n < 2 ^ 16) × (length s ≡ n) × (are_groups s ≡ true) × (b ≡ h ++ s)
 
 -- a count that isn't negative, and that many elements of so many bytes
 abbrev pub IsArray : ℕ → List ℕ → List ℕ → Type 0

@@ -1,5 +1,5 @@
 -- Reading from left to right: a value and the bytes after it, or nothing.
-use Rattle.std.specs.Prelude.{◌≡◌, ℕ, zero, suc, ◌*◌, ◌^◌, List, [], ◌∷◌, length, take, drop, Bool, true, false, Option, Some, None, Result, Ok, Err, nat_lt, nat_le, ◌==◌, if◌then◌else◌}
+use Rattle.std.specs.Prelude.{◌≡◌, ℕ, zero, suc, ◌*◌, ◌^◌, List, [], ◌∷◌, length, take, drop, Bool, true, false, Option, Some, None, Result, Ok, Err, nat_lt, nat_le, ◌||◌, ◌==◌, if◌then◌else◌}
 use Rattle.std.specs.Int.{Width, w8, w16, w32, w64, byte_len, from_be_bytes, cast_signed}
 use Rattle.mig_model.specs.Plain as plain
 use Rattle.mig_model.specs.Plain.{Plain, trees_of, pairs_of}
@@ -45,7 +45,7 @@ tag_at (n ∷ rest) = do
 unfoldable pub text_at : List ℕ → Read (List ℕ)
 text_at bytes = do
   n ← number_at w16 bytes
-  if nat_lt (length n.1) n.0 then None else (if are_groups (take n.0 n.1) then Some (take n.0 n.1, drop n.0 n.1) else None)
+  if nat_le (2 ^ 16) n.0 || nat_lt (length n.1) n.0 then None else (if are_groups (take n.0 n.1) then Some (take n.0 n.1, drop n.0 n.1) else None)
 
 unfoldable pub array_at : ℕ → List ℕ → Read (List ℕ)
 array_at size bytes = do

@@ -4,6 +4,8 @@ ghost use Rattle.mig_nbt.specs.Format.{are_groups, still_to_come, is_more};
 ghost use Rattle.mig_nbt.specs.Reading.{Gives, number_at, tag_of, tag_at, text_at, array_at, leaf_at, payload_at, payloads_at, list_at, tags_at, map_at, save_at};
 ghost use Rattle.mig_nbt.specs.Format.{NbtSave};
 ghost use Rattle.mig_model.specs.Plain.{Plain};
+ghost use Rattle.mig_model.specs.Kinds.{IsMap};
+ghost use Rattle.mig_nbt.specs.Writing.{IsName, IsSpelled};
 ghost use Rattle.mig_tree.specs.View.{plain_of, entry_of};
 
 use crate::error::NbtError;
@@ -342,6 +344,9 @@ fn save_at(alloc: Global, bytes: &[u8]) -> Result<(Text, Tree), NbtError>
 /// The name and the tree of a file. `Wrong` comes exactly where the bytes are no file.
 pub fn read(alloc: Global, bytes: &[u8]) -> Result<(Text, Tree), NbtError>
     ensures found { IfOk result (λ x. NbtSave bytes.now x.0 (plain_of x.1)) }
+
+    // What is read can be written.
+    ensures spelled { IfOk result (λ x. IsName x.0 × IsMap (plain_of x.1) × IsSpelled (plain_of x.1)) }
     ensures wrong { result ≡ Err NbtError.Wrong → (name : List ℕ) (t : Plain) → NbtSave bytes.now name t → ⊥ }
 
     // A file is of one name and tree alone.

@@ -1,0 +1,42 @@
+-- What becomes of the bytes of an NBT save.
+use Rattle.std.proofs.Common.{◌≡◌, ℕ, List, true, false, Option, Some, None, refl, sym, ap, subst, ◌∙◌}
+use Rattle.std.specs.Prelude.{Result, Ok, Err, Vec}
+use Rattle.std.specs.Result.{IsErr, IsErrAnd}
+use Rattle.mig_model.specs.declared.form.Form.{Form}
+use Rattle.mig_model.specs.declared.form.Form.TheVariants as F
+use Rattle.mig_model.specs.Plain.{Plain}
+use Rattle.mig_nbt.specs.Format.{NbtSave}
+use Rattle.mig_nbt.specs.Reading.{save_at}
+use Rattle.mig_nbt.proofs.Laws.{save_sound, save_complete}
+use Rattle.mig_small.specs.Small.{Small, chain_of}
+use Rattle.mig_lift.specs.Lift.{Save, Cause, lift, lift_tree, decoded, encoded, decode, bytes}
+use Rattle.mig_lift.specs.declared.fault.LiftFault.{LiftFault}
+use Rattle.mig_lift.specs.declared.fault.LiftFault.TheVariants as fault
+use Rattle.mig_lift.specs.View.{Causes, Lifts}
+
+module _ (s : Small) (aim : ℕ) (b : List ℕ) (e : s.form ≡ F.Nbt) where
+  by_read : (o : Option (List ℕ × Plain)) → save_at b ≡ o → lift (chain_of s) aim b ≡ decoded (chain_of s) aim o
+  unfolding lift
+  by_read o h = ap (λ f. decoded (chain_of s) aim (decode f b)) e ∙ ap (decoded (chain_of s) aim) h
+
+  pub nothing : ((name : List ℕ) (t : Plain) → NbtSave b name t → ⊥) → lift (chain_of s) aim b ≡ Err bytes
+  nothing no_save = by (save_at b) refl
+    where
+      by : (o : Option (List ℕ × Plain)) → save_at b ≡ o → lift (chain_of s) aim b ≡ Err bytes
+      by None h = by_read None h
+      by (Some x) h = absurd (no_save x.0 x.1 (save_sound b x.0 x.1 h))
+
+  pub something : (name : List ℕ) (t : Plain) → NbtSave b name t → lift (chain_of s) aim b ≡ encoded s.form name (lift_tree (chain_of s) aim t)
+  something name t save = by_read (Some (name, t)) (save_complete b name t save)
+
+-- a cause of the tree is one of the save
+pub caused : (form : Form) (name : List ℕ) (e : LiftFault) (r : Result (Plain × ℕ) Cause) → Causes e r → Causes e (encoded form name r)
+caused form name fault.Bytes r c = ap (encoded form name) c
+caused form name (fault.Version k) r c = ap (encoded form name) c
+caused form name (fault.Schema p) r c = ap (encoded form name) c
+caused form name fault.Memory r c = tt
+
+-- a fault that is passed on
+pub passed : {A : Type 0} (e : LiftFault) (r : Result (Vec ℕ A × ℕ) LiftFault) (is : Result Save Cause) → IsErr r × IsErrAnd r (λ d. d ≡ e) → Causes e is → Lifts r is
+passed e (Ok x) is given c = absurd (let h : false ≡ true = given.0 in cc)
+passed e (Err d) is given c = subst (λ f. Causes f is) (sym given.1) c

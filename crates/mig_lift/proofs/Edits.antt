@@ -1,0 +1,33 @@
+-- Edits of maps, and what they keep.
+use Rattle.std.proofs.Common.{◌≡◌, ℕ, List, Some, None, refl}
+use Rattle.mig_model.specs.Plain as plain
+use Rattle.mig_model.specs.Plain.{Plain, pairs_of, entries}
+use Rattle.mig_model.specs.Kinds.{IsMap, get_in, removed, put_in, entries_of_pairs}
+use Rattle.mig_model.specs.Names.{without}
+use Rattle.mig_model.specs.Treat.{on_entries}
+use Rattle.mig_model.specs.Function.{rename, add, const_tree, Const, act_on}
+
+pub map_without : (name : List ℕ) (t : Plain) → IsMap t → IsMap (removed name t)
+map_without name (plain.map ps) m = tt
+map_without name _ m = absurd m
+
+pub map_with : (name : List ℕ) (u t : Plain) → IsMap t → IsMap (put_in name u t)
+map_with name u (plain.map ps) m = tt
+map_with name u _ m = absurd m
+
+-- a field that is there moves
+pub renamed_there : (x y : List ℕ) (t u : Plain) → IsMap t → get_in x t ≡ Some u → put_in y u (removed y (removed x t)) ≡ on_entries (act_on (rename x y)) t
+renamed_there x y (plain.map ps) u m e =
+    let es = entries ps in
+    rw (e, entries_of_pairs (without x es), entries_of_pairs (without y (without x es))) refl
+renamed_there x y _ u m e = absurd m
+
+pub renamed_absent : (x y : List ℕ) (t : Plain) → IsMap t → get_in x t ≡ None → removed y (removed x t) ≡ on_entries (act_on (rename x y)) t
+renamed_absent x y (plain.map ps) m e =
+    let es = entries ps in
+    rw (e, entries_of_pairs (without x es)) refl
+renamed_absent x y _ m e = absurd m
+
+pub added : (x : List ℕ) (c : Const) (t : Plain) → IsMap t → put_in x (const_tree c) (removed x t) ≡ on_entries (act_on (add x c)) t
+added x c (plain.map ps) m = rw (entries_of_pairs (without x (entries ps))) refl
+added x c _ m = absurd m

@@ -1,0 +1,124 @@
+ghost use Rattle.std.specs.Prelude.{◌≡◌, ◌≤◌, ◌&&◌, IfOk, OnOk, map, nat_lt, nat_le, if◌then◌else◌};
+ghost use Rattle.mig_tree.specs.View.{plain_of};
+ghost use Rattle.mig_model.specs.declared.form.Form.TheVariants.{Nbt};
+ghost use Rattle.mig_model.specs.Kinds.{IsMap};
+ghost use Rattle.mig_model.specs.Rule.{act};
+ghost use Rattle.mig_small.specs.Small.{chain_of, rule_of, open_record};
+ghost use Rattle.mig_small.specs.View.{field_of};
+ghost use Rattle.mig_lift.specs.Lift.{lift, lift_tree};
+ghost use Rattle.mig_lift.specs.View.{Lifts, LiftsTree};
+ghost use Rattle.mig_lift.specs.Writable.{IsWritable};
+
+use crate::fix::{fix, take_out};
+use crate::place::first_wrong;
+use crate::version::{version_of, version_tree};
+use crate::{LiftFault, VersionKind};
+use mig_model::Form;
+use mig_nbt::NbtError;
+use mig_small::{SmallChain, SmallField};
+use mig_tree::{Memory, Text, Tree};
+use std::alloc::Global;
+
+/// Whether a save of the version gets the fix on the way to the target.
+fn is_due(chain: &SmallChain, version: u32, target: u32) -> bool
+    ensures { result ≡ (nat_lt version chain.now.second && nat_le chain.now.second target) }
+{
+    let second = chain.second();
+    version < second && second <= target
+}
+
+/// The fields of the greatest schema that isn't above the version.
+fn fields_at(chain: &SmallChain, version: u32) -> &[SmallField]
+    ensures { map field_of result.now ≡ (if nat_lt version chain.now.second then chain.now.before else chain.now.after) }
+{
+    if version < chain.second() {
+        chain.before()
+    } else {
+        chain.after()
+    }
+}
+
+/// Does the fix where it is due.
+fn fix_if<'a>(chain: &'a SmallChain, due: bool, tree: &mut Tree<'a>) -> Result<(), Memory>
+    requires { IsMap (plain_of tree.old) }
+    ensures map { OnOk result (IsMap (plain_of tree.new)) }
+    ensures fixed { OnOk result (plain_of tree.new
+        ≡ (if due then act (rule_of chain.now) chain.now.root (open_record chain.now.before) (plain_of tree.old) else plain_of tree.old)) }
+{
+    if due {
+        return fix(chain, tree);
+    }
+    Ok(())
+}
+
+/// Lifts the tree of a save. What can be written before can be written after.
+fn lift_tree<'a>(
+    alloc: Global,
+    chain: &'a SmallChain,
+    target: u32,
+    mut tree: Tree<'a>,
+) -> Result<(Tree<'a>, u32), LiftFault>
+    requires target { target ≤ 2147483647 }
+    requires map { IsMap (plain_of tree) }
+    requires writable { IsWritable chain.now.form (plain_of tree) }
+    ensures lifts { LiftsTree result (lift_tree (chain_of chain.now) target (plain_of tree.entry)) }
+    ensures map { IfOk result (λ x. IsMap (plain_of x.0)) }
+    ensures writable { IfOk result (λ x. IsWritable chain.now.form (plain_of x.0)) }
+{
+    chain.keeps();
+    let version = match version_of(chain, &tree) {
+        Ok(version) => version,
+        Err(kind) => return Err(LiftFault::Version(kind)),
+    };
+    take_out(&mut tree, chain.version_name());
+    tree.keeps();
+    if version < chain.first() {
+        return Err(LiftFault::Version(VersionKind::Below(version)));
+    }
+    if target < version {
+        return Err(LiftFault::Version(VersionKind::Above(version)));
+    }
+    if let Some(place) = first_wrong(alloc, fields_at(chain, version), &tree)? {
+        return Err(LiftFault::Schema(place));
+    }
+    fix_if(chain, is_due(chain, version, target), &mut tree)?;
+    let number = version_tree(chain.form(), target);
+    tree.put(Text::lent(chain.version_name().bytes()), number)?;
+    Ok((tree, version))
+}
+
+fn lift_nbt(
+    alloc: Global,
+    chain: &SmallChain,
+    target: u32,
+    bytes: &[u8],
+) -> Result<(Vec<u8>, u32), LiftFault>
+    requires target { target ≤ 2147483647 }
+    requires form { chain.now.form ≡ Nbt }
+    ensures { Lifts result (lift (chain_of chain.now) target bytes.now) }
+{
+    let (name, tree) = match mig_nbt::read(alloc, bytes) {
+        Ok(found) => found,
+        Err(NbtError::Wrong) => return Err(LiftFault::Bytes),
+        Err(NbtError::Memory) => return Err(LiftFault::Memory),
+    };
+    let (tree, version) = lift_tree(alloc, chain, target, tree)?;
+    let written = mig_nbt::write(alloc, name.bytes(), &tree)?;
+    Ok((written, version))
+}
+
+/// Lifts the bytes of a save.
+pub fn lift_bytes(
+    alloc: Global,
+    chain: &SmallChain,
+    target: u32,
+    bytes: &[u8],
+) -> Result<(Vec<u8>, u32), LiftFault>
+    requires { target ≤ 2147483647 }
+    ensures { Lifts result (lift (chain_of chain.now) target bytes.now) }
+{
+    match chain.form() {
+        Form::Nbt => lift_nbt(alloc, chain, target, bytes),
+        Form::Json => Err(LiftFault::Bytes),
+    }
+}

@@ -1,10 +1,14 @@
--- What becomes of the bytes of an NBT save.
-use Rattle.std.proofs.Common.{◌≡◌, ℕ, List, true, false, Option, Some, None, refl, sym, ap, subst, ◌∙◌}
+-- What becomes of the bytes of a save.
+use Rattle.std.proofs.Common.{◌≡◌, ℕ, List, [], option_map, true, false, Option, Some, None, refl, sym, ap, subst, ◌∙◌}
 use Rattle.std.specs.Prelude.{Result, Ok, Err, Vec}
 use Rattle.std.specs.Result.{IsErr, IsErrAnd}
 use Rattle.mig_model.specs.declared.form.Form.{Form}
 use Rattle.mig_model.specs.declared.form.Form.TheVariants as F
 use Rattle.mig_model.specs.Plain.{Plain}
+use Rattle.mig_json.specs.Save.{JsonSave}
+use Rattle.mig_json.specs.Decode.{decode_json}
+use Rattle.mig_json.proofs.Decoded.{not_decoded}
+use Rattle.mig_json.proofs.Decoded.{decoded as json_decoded}
 use Rattle.mig_nbt.specs.Format.{NbtSave}
 use Rattle.mig_nbt.specs.Reading.{save_at}
 use Rattle.mig_nbt.proofs.Laws.{save_sound, save_complete}
@@ -28,6 +32,17 @@ module _ (s : Small) (aim : ℕ) (b : List ℕ) (e : s.form ≡ F.Nbt) where
 
   pub something : (name : List ℕ) (t : Plain) → NbtSave b name t → lift (chain_of s) aim b ≡ encoded s.form name (lift_tree (chain_of s) aim t)
   something name t save = by_read (Some (name, t)) (save_complete b name t save)
+
+module _ (s : Small) (aim : ℕ) (b : List ℕ) (e : s.form ≡ F.Json) where
+  by_parse : (o : Option Plain) → decode_json b ≡ o → lift (chain_of s) aim b ≡ decoded (chain_of s) aim (option_map (λ t. ([], t)) o)
+  unfolding lift
+  by_parse o h = ap (λ f. decoded (chain_of s) aim (decode f b)) e ∙ ap (λ p. decoded (chain_of s) aim (option_map (λ t. ([], t)) p)) h
+
+  pub no_json : ((t : Plain) → JsonSave b t → ⊥) → lift (chain_of s) aim b ≡ Err bytes
+  no_json no_save = by_parse None (not_decoded b no_save)
+
+  pub some_json : (t : Plain) → JsonSave b t → lift (chain_of s) aim b ≡ encoded s.form [] (lift_tree (chain_of s) aim t)
+  some_json t save = by_parse (Some t) (json_decoded b t save)
 
 -- a cause of the tree is one of the save
 pub caused : (form : Form) (name : List ℕ) (e : LiftFault) (r : Result (Plain × ℕ) Cause) → Causes e r → Causes e (encoded form name r)

@@ -5,3 +5,4 @@ pub mod Outcome
 pub mod Names
 pub mod Written
 pub mod Decoded
+pub mod Found

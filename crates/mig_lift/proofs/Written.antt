@@ -10,6 +10,8 @@ use Rattle.mig_model.specs.Treat.{on_entries}
 use Rattle.mig_model.specs.Function as model
 use Rattle.mig_model.specs.Function.{Const, const_kind, const_tree, rename, add, act_on}
 use Rattle.mig_model.specs.Rule.{act}
+use Rattle.mig_json.proofs.Edits.{removed_json, put_json}
+use Rattle.mig_lift.proofs.Found.{got_json}
 use Rattle.mig_nbt.proofs.Spelled.{removed_spelled, put_spelled, got_spelled}
 use Rattle.mig_small.specs.Small.{Small, IsKept, IsSpelled, IsSpelledConst, open_record, rule_of}
 use Rattle.mig_lift.specs.Lift.{version_tree}
@@ -19,15 +21,15 @@ use Rattle.mig_lift.proofs.Edits.{map_without, map_with, renamed_there, renamed_
 
 pub removed_written : (form : Form) (x : List ℕ) (t : Plain) → IsWritable form t → IsWritable form (removed x t)
 removed_written F.Nbt x t w = removed_spelled x t w
-removed_written F.Json x t w = absurd w
+removed_written F.Json x t w = removed_json x t w
 
 put_written : (form : Form) (x : List ℕ) (u t : Plain) → IsMap t → IsSpelled x → IsWritable form u → IsWritable form t → IsWritable form (put_in x u t)
 put_written F.Nbt x u t m n s w = put_spelled x u t m (name_is x n) s w
-put_written F.Json x u t m n s w = absurd w
+put_written F.Json x u t m n s w = put_json x u t n.utf8 s w
 
 got_written : (form : Form) (x : List ℕ) (u t : Plain) → get_in x t ≡ Some u → IsWritable form t → IsWritable form u
 got_written F.Nbt x u t e w = got_spelled x u t e w
-got_written F.Json x u t e w = absurd w
+got_written F.Json x u t e w = got_json x u t e w
 
 const_written : (form : Form) (c : Const) (t : Plain) → IsTrue (is_of_form form (const_kind c)) → IsSpelledConst c → IsWritable form t → IsWritable form (const_tree c)
 const_written F.Nbt (model.byte z) t f s w = tt
@@ -43,11 +45,23 @@ const_written F.Nbt model.null t f s w = absurd (let x : false ≡ true = f in c
 const_written F.Nbt model.no_bytes t f s w = omega arith
 const_written F.Nbt model.no_ints t f s w = (0, refl, omega arith)
 const_written F.Nbt model.no_longs t f s w = (0, refl, omega arith)
-const_written F.Json c t f s w = absurd w
+const_written F.Json (model.byte z) t f s w = absurd (let x : false ≡ true = f in cc)
+const_written F.Json (model.short z) t f s w = absurd (let x : false ≡ true = f in cc)
+const_written F.Json (model.int z) t f s w = absurd (let x : false ≡ true = f in cc)
+const_written F.Json (model.long z) t f s w = absurd (let x : false ≡ true = f in cc)
+const_written F.Json (model.whole z) t f s w = tt
+const_written F.Json (model.float n) t f s w = absurd (let x : false ≡ true = f in cc)
+const_written F.Json (model.double n) t f s w = absurd (let x : false ≡ true = f in cc)
+const_written F.Json (model.text b) t f s w = s.utf8
+const_written F.Json (model.boolean b) t f s w = tt
+const_written F.Json model.null t f s w = tt
+const_written F.Json model.no_bytes t f s w = absurd (let x : false ≡ true = f in cc)
+const_written F.Json model.no_ints t f s w = absurd (let x : false ≡ true = f in cc)
+const_written F.Json model.no_longs t f s w = absurd (let x : false ≡ true = f in cc)
 
 version_written : (form : Form) (n : ℕ) (t : Plain) → IsWritable form t → IsWritable form (version_tree form n)
 version_written F.Nbt n t w = tt
-version_written F.Json n t w = absurd w
+version_written F.Json n t w = tt
 
 module _ (form : Form) where
   renamed_written : (x y : List ℕ) (t : Plain) → IsMap t → IsSpelled y → IsWritable form t → IsMap (on_entries (act_on (rename x y)) t) × IsWritable form (on_entries (act_on (rename x y)) t)

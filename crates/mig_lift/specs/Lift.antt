@@ -1,5 +1,5 @@
 -- What becomes of one save.
-use Rattle.std.specs.Prelude.{ℕ, pos, List, Option, Some, None, Result, Ok, Err, nat_lt, nat_le, if◌then◌else◌}
+use Rattle.std.specs.Prelude.{ℕ, pos, List, [], Option, Some, None, option_map, Result, Ok, Err, nat_lt, nat_le, if◌then◌else◌}
 use Rattle.mig_model.specs.declared.form.Form.{Form}
 use Rattle.mig_model.specs.declared.form.Form.TheVariants as F
 use Rattle.mig_model.specs.Plain as plain
@@ -8,6 +8,8 @@ use Rattle.mig_model.specs.Kinds.{get_in, put_in, removed}
 use Rattle.mig_model.specs.Family.{Family}
 use Rattle.mig_model.specs.Place.{Place, place}
 use Rattle.mig_model.specs.Chain.{Chain, last_version, floor_family, fixed}
+use Rattle.mig_json.specs.Decode.{decode_json}
+use Rattle.mig_json.specs.Writing.{json_text}
 use Rattle.mig_nbt.specs.Reading.{save_at}
 use Rattle.mig_nbt.specs.Writing.{save_text}
 use Rattle.mig_lift.specs.declared.fault.VersionKind.{VersionKind}
@@ -27,12 +29,12 @@ pub data Cause : Type 0 where
 -- the root's name and the tree of a file, or none where the bytes are no file of the form; the name is empty in the JSON form
 abbrev pub decode : Form → List ℕ → Option (List ℕ × Plain)
 decode F.Nbt b = save_at b
-decode F.Json b = None
+decode F.Json b = option_map (λ t. ([], t)) (decode_json b)
 
 -- the canonical text
 abbrev pub encode : Form → List ℕ → Plain → List ℕ
 encode F.Nbt name t = save_text name t
-encode F.Json name t = save_text name t
+encode F.Json name t = json_text t
 
 -- a version is an Int (NBT) or a Whole (JSON) from 0 to the last version
 abbrev pub counted : ℕ → Result ℕ VersionKind

@@ -1,6 +1,6 @@
 ghost use Rattle.std.specs.Prelude.{◌≡◌, ◌≤◌, ◌&&◌, IfOk, OnOk, map, nat_lt, nat_le, if◌then◌else◌};
 ghost use Rattle.mig_tree.specs.View.{plain_of};
-ghost use Rattle.mig_model.specs.declared.form.Form.TheVariants.{Nbt};
+ghost use Rattle.mig_model.specs.declared.form.Form.TheVariants.{Nbt, Json};
 ghost use Rattle.mig_model.specs.Kinds.{IsMap};
 ghost use Rattle.mig_model.specs.Rule.{act};
 ghost use Rattle.mig_small.specs.Small.{chain_of, rule_of, open_record};
@@ -13,6 +13,7 @@ use crate::fix::{fix, take_out};
 use crate::place::first_wrong;
 use crate::version::{version_of, version_tree};
 use crate::{LiftFault, VersionKind};
+use mig_json::JsonError;
 use mig_model::Form;
 use mig_nbt::NbtError;
 use mig_small::{SmallChain, SmallField};
@@ -107,6 +108,27 @@ fn lift_nbt(
     Ok((written, version))
 }
 
+fn lift_json(
+    alloc: Global,
+    chain: &SmallChain,
+    target: u32,
+    bytes: &[u8],
+) -> Result<(Vec<u8>, u32), LiftFault>
+    requires target { target ≤ 2147483647 }
+    requires form { chain.now.form ≡ Json }
+    ensures { Lifts result (lift (chain_of chain.now) target bytes.now) }
+{
+    let document = match mig_json::parse(alloc, bytes) {
+        Ok(document) => document,
+        Err(JsonError::Wrong) => return Err(LiftFault::Bytes),
+        Err(JsonError::Memory) => return Err(LiftFault::Memory),
+    };
+    let tree = document.tree(alloc)?;
+    let (tree, version) = lift_tree(alloc, chain, target, tree)?;
+    let written = mig_json::write(alloc, &tree)?;
+    Ok((written, version))
+}
+
 /// Lifts the bytes of a save.
 pub fn lift_bytes(
     alloc: Global,
@@ -119,6 +141,6 @@ pub fn lift_bytes(
 {
     match chain.form() {
         Form::Nbt => lift_nbt(alloc, chain, target, bytes),
-        Form::Json => Err(LiftFault::Bytes),
+        Form::Json => lift_json(alloc, chain, target, bytes),
     }
 }

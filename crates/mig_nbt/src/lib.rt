@@ -9,4 +9,4 @@ mod writing;
 pub use error::NbtError;
 pub use reading::read;
 pub use tag::Tag;
-pub use writing::{round_trip, write};
+pub use writing::{decoding, round_trip, write};

@@ -5,7 +5,7 @@ ghost use Rattle.mig_model.specs.Plain.{trees_of, pairs_of};
 ghost use Rattle.mig_nbt.specs.Format.{number_of, NbtSave};
 ghost use Rattle.mig_nbt.specs.Writing.{tag_of_plain, element_of, text_bytes, payload, payloads, tags, IsSpelled, AreSpelled, ArePairsSpelled, IsName, save_text};
 ghost use Rattle.mig_model.specs.Kinds.{IsMap};
-ghost use Rattle.mig_nbt.specs.Law.{RoundTrip, levels};
+ghost use Rattle.mig_nbt.specs.Law.{RoundTrip, DecodeLaw, levels};
 
 use crate::tag::Tag;
 use mig_tree::{Entry, Memory, Tree};
@@ -151,4 +151,9 @@ pub fn write(alloc: Global, name: &[u8], tree: &Tree) -> Result<Vec<u8>, Memory>
 /// The law between writing and reading: a spelled map within the reader's limits is what its canonical text stands for.
 pub fn round_trip()
     ensures { RoundTrip }
+{}
+
+/// The law between the reading function and the relation: it gives a name and a tree exactly where the bytes are their file.
+pub fn decoding()
+    ensures { DecodeLaw }
 {}

@@ -16,7 +16,7 @@ returns-in_err-tree c =
     let decoded : lift (chain_of s) c.args.target c.args.bytes.now ≡ encoded s.form c.in-Ok.found.0 (lift_tree (chain_of s) c.args.target (plain_of c.in-Ok.found.1)) =
     something s c.args.target c.args.bytes.now c.requires.form c.in-Ok.found.0 (plain_of c.in-Ok.found.1) c.in-Ok.ensures.found in
     passed c.in_err-tree.field-0.0 c.from_residual.result (lift (chain_of s) c.args.target c.args.bytes.now) c.from_residual.ensures
-        (subst (Causes c.in_err-tree.field-0.0) (sym decoded) (caused s.form c.in-Ok.found.0 c.in_err-tree.field-0.0 (lift_tree (chain_of s) c.args.target (plain_of c.in-Ok.found.1)) c.in_err-tree.ensures.lifts))
+    (subst (Causes c.in_err-tree.field-0.0) (sym decoded) (caused s.form c.in-Ok.found.0 c.in_err-tree.field-0.0 (lift_tree (chain_of s) c.args.target (plain_of c.in-Ok.found.1)) c.in_err-tree.ensures.lifts))
 
 pub returns : goal.returns
 returns c =

@@ -18,12 +18,12 @@ returns-in-Err-clause-lifts c = refused_version c.args.chain.now c.keeps.ensures
 pub returns-then-version-first-clause-lifts : goal.returns-then-version-first-clause-lifts
 returns-then-version-first-clause-lifts c =
     refused_below c.args.chain.now c.keeps.ensures c.args.target (plain_of c.args.tree) c.in-Ok.version (sym c.version_of.ensures ∙ c.in-Ok.is)
-        (omega (arith, c.if-version-first.true, c.first.ensures))
+    (omega (arith, c.if-version-first.true, c.first.ensures))
 
 pub returns-then-target-version-clause-lifts : goal.returns-then-target-version-clause-lifts
 returns-then-target-version-clause-lifts c =
     refused_above c.args.chain.now c.keeps.ensures c.args.target (plain_of c.args.tree) c.in-Ok.version (sym c.version_of.ensures ∙ c.in-Ok.is)
-        (omega (arith, c.if-version-first.false, c.first.ensures)) (omega (arith, c.if-target-version.true))
+    (omega (arith, c.if-version-first.false, c.first.ensures)) (omega (arith, c.if-target-version.true))
 
 pub returns-in-Some-clause-lifts : goal.returns-in-Some-clause-lifts
 returns-in-Some-clause-lifts c =
@@ -35,8 +35,8 @@ returns-in-Some-clause-lifts c =
     sym (ap (λ u. first_wrong (cond (nat_lt v s.second) s.before s.after) u) after) ∙ sym (ap (λ fs. first_wrong fs (plain_of c.take_out.new.tree)) c.fields_at.ensures)
     ∙ sym c.in_ok-place.ensures ∙ ap (option_map place_of) c.in-Some.is in
     refused_schema s c.keeps.ensures c.args.target t v (sym c.version_of.ensures ∙ c.in-Ok.is)
-        (omega (arith, c.if-version-first.false, c.first.ensures)) (omega (arith, c.if-target-version.false)) c.requires.map
-        (subst IsOrdered after (ordered (plain_of c.take_out.new.tree) c.keeps-2.ensures)) (nat_lt v s.second) refl (place_of c.in-Some.place) wrong
+    (omega (arith, c.if-version-first.false, c.first.ensures)) (omega (arith, c.if-target-version.false)) c.requires.map
+    (subst IsOrdered after (ordered (plain_of c.take_out.new.tree) c.keeps-2.ensures)) (nat_lt v s.second) refl (place_of c.in-Some.place) wrong
 
 target_put : (c : goal.In_ok-put) → plain_of c.put.new.self ≡ put_in c.args.chain.now.version (version_tree c.args.chain.now.form c.args.target) (plain_of c.fix_if.new.tree)
 target_put c =
@@ -54,8 +54,8 @@ returns-clause-lifts c =
     sym (ap (λ u. first_wrong (cond (nat_lt v s.second) s.before s.after) u) after) ∙ sym (ap (λ fs. first_wrong fs (plain_of c.take_out.new.tree)) c.fields_at.ensures)
     ∙ sym c.in_ok-place.ensures ∙ ap (option_map place_of) c.in_default.is in
     lifted s c.keeps.ensures c.args.target t v (sym c.version_of.ensures ∙ c.in-Ok.is)
-        (omega (arith, c.if-version-first.false, c.first.ensures)) (omega (arith, c.if-target-version.false)) c.requires.map
-        (subst IsOrdered after (ordered (plain_of c.take_out.new.tree) c.keeps-2.ensures)) (nat_lt v s.second) refl right
+    (omega (arith, c.if-version-first.false, c.first.ensures)) (omega (arith, c.if-target-version.false)) c.requires.map
+    (subst IsOrdered after (ordered (plain_of c.take_out.new.tree) c.keeps-2.ensures)) (nat_lt v s.second) refl right
     ∙ ap (λ u. Ok (put_in s.version (version_tree s.form c.args.target) u, v))
     (sym (c.in_ok-fix_if.ensures.fixed ∙ ap (λ due. cond due (act (rule_of s) s.root (open_record s.before) (plain_of c.take_out.new.tree)) (plain_of c.take_out.new.tree)) c.is_due.ensures
     ∙ ap (λ u. cond (nat_lt v s.second && nat_le s.second c.args.target) (act (rule_of s) s.root (open_record s.before) u) u) after))

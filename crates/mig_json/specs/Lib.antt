@@ -1,0 +1,5 @@
+pub mod Save
+pub mod Kinds
+pub mod Lending
+pub mod Writing
+pub mod Decode

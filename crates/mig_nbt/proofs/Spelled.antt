@@ -1,10 +1,8 @@
 -- What a file stands for is within the bounds of the format, and edits of a map keep it so.
-use Rattle.std.proofs.Common.{◌≡◌, ℕ, zero, suc, ◌*◌, ◌<◌, ◌^◌, List, [], ◌∷◌, ◌++◌, length, Option, Some, None, refl, sym, ap, subst, ◌∙◌, arith, cond, Bool, true, false}
-use Rattle.std.specs.Prelude.{IsPermutation}
+use Rattle.std.proofs.Common.{◌≡◌, ℕ, zero, suc, ◌<◌, ◌^◌, List, [], ◌∷◌, length, Some, refl, sym, ap, subst, arith, cond, Bool, true, false}
 use Rattle.std.specs.Ordering.{is_eq, match_ordering}
 use Rattle.std.specs.declared.cmp.Ordering.{Ordering}
 use Rattle.std.specs.declared.cmp.Ordering.TheVariants.{Less, Equal, Greater}
-use Rattle.std.specs.Int.{w16, w32}
 use Rattle.std.specs.List.{AllByRecursion}
 use Rattle.std.proofs.lemmas.List.Sorted.{All-permutation}
 use Rattle.std.proofs.lemmas.List.Elements.{recursion_from_All, All-from_recursion}
@@ -14,7 +12,7 @@ use Rattle.mig_model.specs.Kinds.{IsMap, items_of_trees, get_in, removed, put_in
 use Rattle.mig_model.specs.Names.{by_bytes, found, without, with_pair}
 use Rattle.mig_nbt.specs.declared.tag.Tag.{Tag}
 use Rattle.mig_nbt.specs.declared.tag.Tag.TheVariants as T
-use Rattle.mig_nbt.specs.Format.{Number, IsText, IsArray, Leaf, Payloads, IsList, Tags, IsCompound, Payload, NbtSave}
+use Rattle.mig_nbt.specs.Format.{IsText, Leaf, Payloads, IsList, Tags, IsCompound, Payload, NbtSave}
 use Rattle.mig_nbt.specs.Writing.{tag_of_plain, element_of, IsName, AreOf, IsSpelled, AreSpelled, ArePairsSpelled}
 
 -- a spelled tree of a tag

@@ -10,3 +10,6 @@ pub use error::NbtError;
 pub use reading::read;
 pub use tag::Tag;
 pub use writing::{decoding, round_trip, write};
+
+#[cfg(test)]
+mod tests;

@@ -1,0 +1,15 @@
+pub mod Found
+pub mod Declared
+pub mod Sorted
+pub mod Ascending
+pub mod Leaves
+pub mod TwoRules
+pub mod Formed
+pub mod Spelled
+pub mod Lifts
+pub mod Names
+pub mod Accepted
+pub mod Schemas
+pub mod Places
+pub mod Whole
+pub mod Parts

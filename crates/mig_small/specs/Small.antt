@@ -1,5 +1,5 @@
 -- Small chains as plain data: two schemas of one open record each, and between them a fix that renames a field and adds one.
-use Rattle.std.specs.Prelude.{◌≡◌, ◌≤◌, ◌<◌, ◌^◌, ℕ, List, [], ◌∷◌, Option, Some, None, length, IsTrue, IsUtf8}
+use Rattle.std.specs.Prelude.{◌≤◌, ◌<◌, ◌^◌, ℕ, List, [], ◌∷◌, Option, Some, length, IsTrue, IsUtf8}
 use Rattle.std.specs.Str.{chars}
 use Rattle.std.specs.List.{AllByRecursion}
 use Rattle.std.specs.List.Sorted.{IsStrictlySortedBy}

@@ -1,15 +1,13 @@
 -- Which texts are small chains: nine declarations of one shape, which make an accepted chain.
-use Rattle.std.specs.Prelude.{◌≡◌, ◌<◌, ◌≤◌, ◌^◌, ℕ, ℤ, pos, List, [], ◌∷◌, length, map, Bool, true, false, Option, Some, None, IsTrue, IsPermutation, FitsSigned}
+use Rattle.std.specs.Prelude.{◌≡◌, ◌<◌, ◌≤◌, ◌^◌, ℕ, ℤ, pos, List, [], ◌∷◌, length, true, false, Option, Some, None, IsTrue, IsPermutation, FitsSigned}
 use Rattle.std.specs.Int.{w8, w16, w32, w64}
 use Rattle.std.specs.List.{AllByRecursion}
 use Rattle.mig_model.specs.declared.form.Form.{Form}
-use Rattle.mig_model.specs.declared.kind.Kind.{Kind}
 use Rattle.mig_model.specs.declared.kind.Kind.TheVariants as K
 use Rattle.mig_model.specs.Template.{is_of_form}
 use Rattle.mig_model.specs.Function as model
 use Rattle.mig_model.specs.Function.{Const, const_kind, rename, add}
 use Rattle.mig_model.specs.Rule.{function, seq}
-use Rattle.mig_model.specs.Family.{Family}
 use Rattle.mig_model.specs.Chain.{Chain, schema, fix, last_version, IsAccepted}
 use Rattle.mig_token.specs.Token.{Tok}
 use Rattle.mig_token.specs.Lexical.{IsWhite, AreTokens}

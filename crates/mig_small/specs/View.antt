@@ -1,6 +1,5 @@
 -- The parts of a small chain, wherever they lie in memory.
-use Rattle.std.specs.Prelude.{ℕ, List, map}
-use Rattle.mig_model.specs.declared.kind.Kind.{Kind}
+use Rattle.std.specs.Prelude.{map}
 use Rattle.mig_leaf.specs.View.{const_of}
 use Rattle.mig_small.specs.declared.field.SmallField.{SmallField}
 use Rattle.mig_small.specs.declared.small.SmallChain.TheInside.{Inside}

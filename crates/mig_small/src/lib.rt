@@ -1,9 +1,18 @@
 //! Small chains: texts of nine declarations, of which the fix renames a field and adds one.
 #![tactic(auto)]
 
+mod agree;
+mod constant;
+mod declarations;
+mod edits;
 mod fault;
 mod field;
+mod lift;
+mod nine;
 mod read;
+mod record;
+mod schema;
+mod shape;
 mod small;
 
 pub use fault::SmallFault;

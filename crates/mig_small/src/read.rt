@@ -2,15 +2,51 @@ ghost use Rattle.std.specs.Prelude.{◌≡◌, Err, IfOk};
 ghost use Rattle.mig_model.specs.Chain.{Chain};
 ghost use Rattle.mig_small.specs.Small.{chain_of};
 ghost use Rattle.mig_small.specs.SmallText.{IsSmallText};
+ghost use Rattle.mig_small.specs.Pieces.{Finds};
+ghost use Rattle.mig_small.specs.Nine.{IsNine};
+ghost use Rattle.mig_small.specs.Views.{nine_pieces};
 
+use crate::agree::agree;
+use crate::declarations::{fix_declared, form_declared, version_declared};
+use crate::nine::{NineText, nine};
+use crate::schema::read_schema;
 use crate::{SmallChain, SmallFault};
+use mig_lex::{cut, is_blank};
 use std::alloc::Global;
 
-/// The small chain that the text is. `NotYet` comes exactly where the text is no small chain.
-pub fn read_small(_alloc: Global, _text: &[u8]) -> Result<SmallChain, SmallFault>
-    ensures found { IfOk result (λ s. IsSmallText _text.now (chain_of s)) }
-    ensures not_yet { result ≡ Err SmallFault.NotYet → (c : Chain) → IsSmallText _text.now c → ⊥ }
-    ensures only { IfOk result (λ s. (c : Chain) → IsSmallText _text.now c → c ≡ chain_of s) }
+/// The length of the longest text, in bytes: this project's own limit.
+const MAX_TEXT: usize = 1_048_576;
+
+/// The small chain that the nine pieces spell.
+fn read_nine(alloc: Global, pieces: &NineText) -> Result<SmallChain, SmallFault>
+    ensures { Finds (λ s. s) (IsNine (nine_pieces pieces.now)) result }
 {
-    Err(SmallFault::Memory)
+    let form = form_declared(alloc, pieces.form)?;
+    let (version, missing) = version_declared(alloc, pieces.version)?;
+    let before = read_schema(alloc, form, version.bytes(), &pieces.before)?;
+    let (number, edits) = fix_declared(alloc, form, pieces.fix)?;
+    let after = read_schema(alloc, form, version.bytes(), &pieces.after)?;
+    if !agree(alloc, &before, number, &edits, &after)? {
+        return Err(SmallFault::NotYet);
+    }
+    Ok(SmallChain::from_parts(form, version, missing, before, edits, after))
+}
+
+/// The small chain that the text is. `NotYet` comes exactly where the text is no small chain.
+pub fn read_small(alloc: Global, text: &[u8]) -> Result<SmallChain, SmallFault>
+    ensures found { IfOk result (λ s. IsSmallText text.now (chain_of s)) }
+    ensures not_yet { result ≡ Err SmallFault.NotYet → (c : Chain) → IsSmallText text.now c → ⊥ }
+    ensures only { IfOk result (λ s. (c : Chain) → IsSmallText text.now c → c ≡ chain_of s) }
+{
+    if text.len() > MAX_TEXT {
+        return Err(SmallFault::NotYet);
+    }
+    let pieces = cut(alloc, text)?;
+    if !is_blank(pieces.rest) {
+        return Err(SmallFault::NotYet);
+    }
+    match nine(&pieces.declarations) {
+        Some(nine) => read_nine(alloc, &nine),
+        None => Err(SmallFault::NotYet),
+    }
 }

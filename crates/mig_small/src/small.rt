@@ -1,6 +1,8 @@
 ghost use Rattle.std.specs.Prelude.{◌≡◌, map};
 
 use crate::SmallField;
+use crate::edits::Edits;
+use crate::schema::Schema;
 use mig_leaf::Const;
 use mig_model::{Form, Name};
 use std::marker::Model;
@@ -38,6 +40,47 @@ impl SmallChain {
     ghost use Rattle.mig_leaf.specs.View.{const_of};
     ghost use Rattle.mig_small.specs.View.{field_of};
     ghost use Rattle.mig_small.specs.Small.{IsKept};
+    ghost use Rattle.mig_small.specs.Nine.{small_with};
+    ghost use Rattle.mig_small.specs.Views.{edits_of, schema_of};
+
+    /// The small chain of these parts.
+    pub(crate) fn from_parts(
+        form: Form,
+        version: Name,
+        missing: Option<u32>,
+        before: Schema,
+        edits: Edits,
+        after: Schema,
+    ) -> SmallChain
+        requires { IsKept (small_with form version missing (schema_of before) (edits_of edits) (schema_of after)) }
+        ensures { result ≡ small_with form version missing (schema_of before) (edits_of edits) (schema_of after) }
+    {
+        let Schema {
+            version: first,
+            root,
+            fields,
+        } = before;
+        let Edits {
+            old_name,
+            new_name,
+            added,
+            constant,
+        } = edits;
+        SmallChain {
+            form,
+            version,
+            missing,
+            root,
+            first,
+            second: after.version,
+            before: fields,
+            old_name,
+            new_name,
+            added,
+            constant,
+            after: after.fields,
+        }
+    }
 
     /// The form of the chain's saves.
     pub fn form(&self) -> Form

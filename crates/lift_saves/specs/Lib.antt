@@ -1,0 +1,4 @@
+pub mod Lines
+pub mod Folder
+pub mod Command
+pub mod View

@@ -1,0 +1,54 @@
+-- The lines of the report. Each ends in one line feed.
+use Rattle.std.specs.Prelude.{ℕ, List, [], ◌∷◌, ◌++◌, Result, Ok, Err, codes, decimal, flat_map}
+use Rattle.mig_model.specs.Place.{PlaceStep, Place, named, index}
+use Rattle.mig_tree.specs.Spelling.{spelled_byte}
+use Rattle.mig_lift.specs.declared.fault.VersionKind.{VersionKind}
+use Rattle.mig_lift.specs.declared.fault.VersionKind.TheVariants as V
+use Rattle.mig_lift.specs.Lift.{Save, Cause}
+use Rattle.mig_lift.specs.Lift as lifting
+
+-- a name as printable text
+abbrev pub spelled : List ℕ → List ℕ
+spelled name = flat_map spelled_byte name
+
+-- a slash, and the spelled name or the number
+abbrev pub step_line : PlaceStep → List ℕ
+step_line (named n) = 47 ∷ spelled n
+step_line (index i) = 47 ∷ decimal i
+
+-- the steps of a place, and `/` for the root
+abbrev pub place_line : Place → List ℕ
+place_line [] = 47 ∷ []
+place_line (s ∷ ss) = flat_map step_line (s ∷ ss)
+
+abbrev pub kind_line : VersionKind → List ℕ
+kind_line V.Absent = codes "absent"
+kind_line V.Wrong = codes "wrong"
+kind_line (V.Below v) = codes "below " ++ decimal v
+kind_line (V.Above v) = codes "above " ++ decimal v
+
+abbrev pub refusal : Cause → List ℕ
+refusal lifting.bytes = codes ": refused bytes"
+refusal (lifting.version k) = codes ": refused version " ++ kind_line k
+refusal (lifting.schema p) = codes ": refused schema " ++ place_line p
+
+-- what a save's line says behind its name
+abbrev pub said : ℕ → Result Save Cause → List ℕ
+said target (Ok save) = codes ": lifted " ++ decimal save.version ++ codes " to " ++ decimal target
+said target (Err cause) = refusal cause
+
+-- the line of a save
+abbrev pub save_line : ℕ → List ℕ → Result Save Cause → List ℕ
+save_line target name outcome = spelled name ++ said target outcome ++ 10 ∷ []
+
+abbrev pub usage_line : List ℕ
+usage_line = codes "usage" ++ 10 ∷ []
+
+abbrev pub absent_line : List ℕ
+absent_line = codes "chain: absent" ++ 10 ∷ []
+
+abbrev pub not_yet_line : List ℕ
+not_yet_line = codes "chain: not yet" ++ 10 ∷ []
+
+abbrev pub below_line : ℕ → List ℕ
+below_line first = codes "target below " ++ decimal first ++ 10 ∷ []

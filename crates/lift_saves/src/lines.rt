@@ -1,0 +1,133 @@
+// The lines of the report.
+ghost use Rattle.std.specs.Prelude.{◌≡◌, ◌≤◌, ◌++◌, [], ◌∷◌, OnOk, IfOk, IsErrOf, decimal, codes};
+ghost use Rattle.mig_files.specs.Held.{Rose};
+ghost use Rattle.lift_saves.specs.Lines.{spelled, kind_line, place_line};
+ghost use Rattle.lift_saves.specs.Command.{Says};
+ghost use Rattle.lift_saves.specs.View.{found, tells, Told};
+ghost use Rattle.mig_lift.specs.View.{place_of};
+
+use crate::save::Verdict;
+use crate::stop::{Ending, Stop};
+use mig_files::{Sink, SinkFault};
+use mig_lift::VersionKind;
+use mig_tree::{Memory, Place, spell};
+use std::alloc::{AllocError, Global};
+
+fn push_number(alloc: Global, line: &mut Vec<u8>, number: u32) -> Result<(), AllocError>
+    ensures { OnOk result (line.new.items ≡ line.old.items ++ decimal number) }
+{
+    let digits = number.to_string(alloc)?;
+    line.extend_from_slice(digits.as_bytes())?;
+    Ok(())
+}
+
+fn push_kind(alloc: Global, line: &mut Vec<u8>, kind: VersionKind) -> Result<(), AllocError>
+    ensures { OnOk result (line.new.items ≡ line.old.items ++ kind_line kind) }
+{
+    match kind {
+        VersionKind::Absent => line.extend_from_slice(b"absent"),
+        VersionKind::Wrong => line.extend_from_slice(b"wrong"),
+        VersionKind::Below(version) => {
+            line.extend_from_slice(b"below ")?;
+            push_number(alloc, line, version)
+        }
+        VersionKind::Above(version) => {
+            line.extend_from_slice(b"above ")?;
+            push_number(alloc, line, version)
+        }
+    }
+}
+
+fn push_place(alloc: Global, line: &mut Vec<u8>, place: &Place) -> Result<(), Memory>
+    ensures { OnOk result (line.new.items ≡ line.old.items ++ place_line (place_of place.now)) }
+{
+    let text = place.text(alloc)?;
+    line.extend_from_slice(&text)?;
+    Ok(())
+}
+
+fn push_versions(
+    alloc: Global,
+    line: &mut Vec<u8>,
+    version: u32,
+    target: u32,
+) -> Result<(), AllocError>
+    ensures { OnOk result (line.new.items ≡ line.old.items ++ (decimal version ++ codes " to " ++ decimal target)) }
+{
+    push_number(alloc, line, version)?;
+    line.extend_from_slice(b" to ")?;
+    push_number(alloc, line, target)
+}
+
+// What a verdict's line says behind the name.
+fn push_verdict(
+    alloc: Global,
+    line: &mut Vec<u8>,
+    target: u32,
+    verdict: &Verdict,
+) -> Result<(), Memory>
+    ensures { OnOk result (line.new.items ≡ line.old.items ++ tells target (found verdict.now)) }
+{
+    match verdict {
+        Verdict::Lifted(_, version) => {
+            line.extend_from_slice(b": lifted ")?;
+            push_versions(alloc, line, *version, target)?;
+        }
+        Verdict::Absent => line.extend_from_slice(b": refused absent")?,
+        Verdict::Bytes => line.extend_from_slice(b": refused bytes")?,
+        Verdict::Version(kind) => {
+            line.extend_from_slice(b": refused version ")?;
+            push_kind(alloc, line, *kind)?;
+        }
+        Verdict::Schema(place) => {
+            line.extend_from_slice(b": refused schema ")?;
+            push_place(alloc, line, place)?;
+        }
+    }
+    Ok(())
+}
+
+// Puts a line, by one put.
+fn put_line<S: Sink>(line: &[u8], report: &mut S) -> Result<(), Stop>
+    ensures told { Told line.now (S.written report.old) (S.written report.new) result }
+    ensures later { S.faults report.old ≤ S.faults report.new }
+    ensures report { IsErrOf result Stop.Report → Rose (S.faults report.old) (S.faults report.new) }
+    ensures files { IsErrOf result Stop.Files → ⊥ }
+{
+    match report.put(line) {
+        Ok(()) => Ok(()),
+        Err(SinkFault::Failed) => Err(Stop::Report),
+        Err(SinkFault::Memory) => Err(Stop::Memory),
+    }
+}
+
+/// Puts the line that says why a command isn't run.
+pub fn refuse<S: Sink>(line: &[u8], report: &mut S) -> Result<Ending, Stop>
+    ensures told { Says line.now (S.written report.old) (S.written report.new) result }
+    ensures not_run { IfOk result (λ e. e ≡ Ending.NotRun) }
+    ensures later { S.faults report.old ≤ S.faults report.new }
+    ensures report { IsErrOf result Stop.Report → Rose (S.faults report.old) (S.faults report.new) }
+    ensures files { IsErrOf result Stop.Files → ⊥ }
+{
+    put_line(line, report)?;
+    Ok(Ending::NotRun)
+}
+
+/// Puts a save's line.
+pub fn put_save_line<S: Sink>(
+    alloc: Global,
+    target: u32,
+    name: &str,
+    verdict: &Verdict,
+    report: &mut S,
+) -> Result<(), Stop>
+    ensures told { Told (spelled name.now ++ tells target (found verdict.now) ++ 10 ∷ []) (S.written report.old) (S.written report.new) result }
+    ensures later { S.faults report.old ≤ S.faults report.new }
+    ensures report { IsErrOf result Stop.Report → Rose (S.faults report.old) (S.faults report.new) }
+    ensures files { IsErrOf result Stop.Files → ⊥ }
+{
+    let mut line = spell(alloc, name.as_bytes())?;
+    push_verdict(alloc, &mut line, target, verdict)?;
+    line.push(b'\n')?;
+    put_line(&line, report)
+}

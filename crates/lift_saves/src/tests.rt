@@ -2,6 +2,7 @@ ghost use Rattle.std.specs.Prelude.{◌≡◌, ◌<◌};
 
 use crate::run;
 use mig_files::{MemoryFiles, MemorySink};
+use mig_lift::{LiftFault, Migrator, VersionKind, read_small};
 use mig_tree::Steps;
 use std::alloc::{AllocError, Global};
 use std::marker::Brand;
@@ -390,6 +391,104 @@ fn failing_calls_stop_the_run(rt: HostRuntime) -> Result<(), Fail> {
             None,
             "call {call} and put {put}"
         );
+    }
+    Ok(())
+}
+
+// The migrator of the chain to its last version.
+fn migrator_of(alloc: Global, chain: &str) -> Option<Migrator> {
+    match read_small(alloc, chain.as_bytes()) {
+        Ok(chain) => Migrator::new(chain, 101).ok(),
+        Err(_) => None,
+    }
+}
+
+// Lifts one save with a counter of its own.
+fn lift_counted<L: Ledger>(
+    alloc: Global,
+    migrator: &Migrator,
+    save: &[u8],
+    blank: Blank,
+) -> Result<(Vec<u8>, u32), LiftFault>
+    requires name { blank.name ≡ L.name }
+    requires parts { blank.parts ≡ L.parts }
+    requires some { 0 < L.parts }
+{
+    let mut steps: Steps<L> = Steps::new(blank);
+    migrator.lift(alloc, save, &mut steps)
+}
+
+fn lift_alone(
+    alloc: Global,
+    migrator: &Migrator,
+    save: &[u8],
+) -> Result<(Vec<u8>, u32), LiftFault> {
+    lift_counted::<Brand>(alloc, migrator, save, Blank::new(1))
+}
+
+// A word for why a save isn't lifted.
+fn word_of(fault: &LiftFault) -> &'static str {
+    match fault {
+        LiftFault::Bytes => "bytes",
+        LiftFault::Version(VersionKind::Absent) => "absent",
+        LiftFault::Version(VersionKind::Wrong) => "wrong",
+        LiftFault::Version(VersionKind::Below(_)) => "below",
+        LiftFault::Version(VersionKind::Above(_)) => "above",
+        LiftFault::Schema(_) => "schema",
+        LiftFault::Memory => "memory",
+    }
+}
+
+// The lifted bytes, where there are some, and a word for the answer.
+fn told(answer: Result<(Vec<u8>, u32), LiftFault>) -> (Option<Vec<u8>>, &'static str) {
+    match answer {
+        Ok((bytes, _version)) => (Some(bytes), "lifted"),
+        Err(fault) => {
+            let word = word_of(&fault);
+            drop(fault);
+            (None, word)
+        }
+    }
+}
+
+// Lifts one save alone, and compares the word for the answer and the lifted bytes.
+fn check_alone(
+    rt: &impl Abort,
+    alloc: Global,
+    migrator: &Migrator,
+    save: &[u8],
+    word: &str,
+) -> Result<(), Fail> {
+    let (bytes, found) = told(lift_alone(alloc, migrator, save));
+    let due = if word == "lifted" { Some(LIFTED) } else { None };
+    assert_eq!(rt; bytes.as_deref(), due, "the bytes of {word}");
+    assert!(rt; found == word, "the answer {word}");
+    Ok(())
+}
+
+#[test]
+fn a_save_is_lifted_alone(rt: HostRuntime) -> Result<(), Fail> {
+    let alloc = rt.alloc();
+    let Some(migrator) = migrator_of(alloc, CHAIN) else {
+        assert!(&rt; false, "the chain");
+        return Ok(());
+    };
+    for (save, word) in [
+        (SAVE, "lifted"),
+        (WITH_HEALTH, "lifted"),
+        (VERSION_101, "lifted"),
+        (CUT, "bytes"),
+        (GZIP, "bytes"),
+        (LONGER, "bytes"),
+        (NAMED_TWICE, "bytes"),
+        (VERSION_102, "above"),
+        (VERSION_99, "below"),
+        (VERSIONLESS, "absent"),
+        (SHORT_VERSION, "wrong"),
+        (NUMBER_NAMED, "schema"),
+        (NAMELESS, "schema"),
+    ] {
+        check_alone(&rt, alloc, &migrator, save, word)?;
     }
     Ok(())
 }

@@ -1,0 +1,8 @@
+pub mod Parts
+pub mod Kept
+pub mod Code
+pub mod Size
+pub mod Fault
+pub mod View
+pub mod Falls
+pub mod KindSet

@@ -1,0 +1,185 @@
+ghost use Rattle.std.specs.Prelude.{◌≡◌, ◌↔◌, length, map, option_map, IfSome, IfOk, IsTrue};
+ghost use Rattle.std.specs.List.Sorted.{IsSearchInRange};
+ghost use Rattle.std.specs.Map.{keys_of};
+ghost use Rattle.std_collections.specs.Layout.BTreeMap.{seek};
+ghost use Rattle.mig_model.specs.Names.{by_bytes};
+ghost use Rattle.mig_template.specs.Parts.{Ascends, found_field, is_among};
+ghost use Rattle.mig_template.specs.View.{template_of, field_of};
+
+use crate::{Memory, Name, Presence, Template};
+use std::alloc::Global;
+use std::cmp::Ordering;
+use std::marker::Model;
+
+/// A field of a record or of a case: its name, whether it has to be there, and the template of its tree.
+#[cycle(template)]
+#[derive(Debug, Drop)]
+pub struct Field {
+    pub name: Name,
+    pub presence: Presence,
+    pub template: Template,
+}
+
+/// Fields whose names are distinct and ascend by bytes. Contracts see the list of the fields.
+#[cycle(template)]
+#[derive(Debug, Drop)]
+pub struct Fields {
+    list: Vec<Field>,
+}
+
+impl Model for Fields {
+    ghost use Rattle.std.specs.Prelude.{List, map};
+    ghost use Rattle.mig_model.specs.Template.{Field};
+    ghost use Rattle.mig_template.specs.Code.{coded_fields};
+
+    ghost Value = { List Field };
+
+    ghost coded = { coded_fields };
+
+    ghost use Rattle.mig_template.specs.View.{field_of};
+
+    ghost view = { λ a. map field_of a.list.items };
+
+    ghost use Rattle.mig_template.specs.Kept.{FieldListKept};
+
+    ghost invariant = { λ a. FieldListKept (map field_of a.list.items) };
+
+    ghost use Rattle.mig_template.specs.Size.{field_list_size};
+
+    ghost size = { field_list_size };
+
+    ghost use Rattle.std.proofs.Common.{arith};
+    ghost use Rattle.mig_template.specs.Falls.{most_fields};
+
+    ghost size_decreases = { λ a h. omega (arith, most_fields a.list.items) };
+}
+
+impl Field {
+    /// Whether the two are equal.
+    #[cycle(same)]
+    pub fn same(&self, other: &Field) -> bool
+        ensures { IsTrue result ↔ (field_of self.now ≡ field_of other.now) }
+    {
+        self.name.bytes() == other.name.bytes()
+            && self.presence == other.presence
+            && self.template.same(&other.template)
+    }
+}
+
+impl Fields {
+    ghost use Rattle.mig_model.specs.Template.{fields_of, fields_have_point};
+    ghost use Rattle.mig_template.specs.Kept.{FieldListKept};
+
+    /// These fields, whose names ascend and whose templates keep what a template keeps.
+    pub(crate) fn new(list: Vec<Field>) -> Fields
+        requires { FieldListKept (map field_of list.items) }
+        ensures { result ≡ map field_of list.items }
+    {
+        Fields { list }
+    }
+
+    /// The fields, ascending by name.
+    pub fn as_slice(&self) -> &[Field]
+        ensures fields { map field_of result.now ≡ self.now }
+        ensures keep { FieldListKept self.now }
+    {
+        self.list.as_slice()
+    }
+
+    /// Gives the fields up.
+    pub fn into_vec(self) -> Vec<Field>
+        ensures fields { map field_of result.items ≡ self }
+        ensures keep { FieldListKept self }
+    {
+        let Fields { list } = self;
+        list
+    }
+
+    /// Where the name is, or where it would go.
+    fn place(list: &[Field], name: &[u8]) -> Result<usize, usize>
+        requires { Ascends (map field_of list.now) }
+        ensures bound { IsSearchInRange result (length list.now) }
+        ensures place { result ≡ seek (by_bytes name.now) (map field_of list.now) }
+    {
+        let mut low = 0;
+        let mut high = list.len();
+        'halves: while low < high {
+            let middle = low + (high - low) / 2;
+            match list[middle].name.bytes().cmp(name) {
+                Ordering::Less => low = middle + 1,
+                Ordering::Equal => return Ok(middle),
+                Ordering::Greater => high = middle,
+            }
+        }
+        Err(low)
+    }
+
+    /// The field of the name. It takes log n comparisons.
+    pub fn get(&self, name: &[u8]) -> Option<&Field>
+        ensures name { IfSome result (λ f. f.now.name ≡ name.now) }
+        ensures found { option_map (λ f. (f.now.presence, template_of f.now.template)) result ≡ found_field name.now self.now }
+    {
+        match Fields::place(self.list.as_slice(), name) {
+            Ok(at) => Some(&self.list[at]),
+            Err(_) => None,
+        }
+    }
+
+    /// Whether a field has the name. It takes log n comparisons.
+    pub fn has(&self, name: &[u8]) -> bool
+        ensures { result ≡ is_among (keys_of self.now) name.now }
+    {
+        self.get(name).is_some()
+    }
+
+    /// Whether a point occurs in a field's template.
+    #[cycle(points)]
+    pub fn has_point(&self) -> bool
+        ensures { result ≡ fields_have_point (fields_of self.now) }
+    {
+        for field in self.as_slice() {
+            if field.template.has_point() {
+                return true;
+            }
+        }
+        false
+    }
+
+    /// Equal fields.
+    #[cycle(copy)]
+    pub fn copy(&self, alloc: Global) -> Result<Fields, Memory>
+        ensures { IfOk result (λ fs. fs ≡ self.now) }
+    {
+        let mut list = Vec::new(alloc);
+        for field in self.as_slice() {
+            let name = field.name.copy(alloc)?;
+            let template = field.template.copy(alloc)?;
+            list.push(Field {
+                name,
+                presence: field.presence,
+                template,
+            })?;
+        }
+        Ok(Fields::new(list))
+    }
+
+    /// Whether the two are equal.
+    #[cycle(same)]
+    pub fn same(&self, other: &Fields) -> bool
+        ensures { IsTrue result ↔ (self.now ≡ other.now) }
+    {
+        let list = self.as_slice();
+        let others = other.as_slice();
+        if list.len() != others.len() {
+            return false;
+        }
+        for at in 0..list.len() {
+            let one = &list[at];
+            let another = &others[at];
+            if !one.same(another) {
+                return false;
+            }
+        }
+        true
+    }
+}

@@ -1,0 +1,313 @@
+ghost use Rattle.std.specs.Prelude.{◌≡◌, ◌↔◌, Some, false, map, option_map, IfOk, IfErr, IsTrue};
+ghost use Rattle.mig_template.specs.Parts.{IsRecordOf, is_twice_named, has_no_case};
+ghost use Rattle.mig_template.specs.Fault.{IsFault};
+ghost use Rattle.mig_template.specs.View.{field_of, case_of, given_choice};
+
+use crate::cases::order_cases;
+use crate::ordering::order_fields;
+use crate::{Field, Fields, Memory, Name, RecordFault, Rest};
+use std::alloc::Global;
+use std::marker::Model;
+
+/// The fields that a record has where its tag is the literal.
+#[cycle(template)]
+#[derive(Debug, Drop)]
+pub struct Case {
+    pub literal: Name,
+    pub fields: Fields,
+}
+
+/// The name of a tag, and a case for each text that it may be. Contracts see the pair of the name and the cases.
+#[cycle(template)]
+#[derive(Debug, Drop)]
+pub struct Choice {
+    tag: Name,
+    cases: Vec<Case>,
+}
+
+/// A record: fields that each of its maps has, a choice between cases by a tag, and whether other names may stand there. Contracts see its parts as lists.
+#[cycle(template)]
+#[derive(Debug, Drop)]
+pub struct Record {
+    fields: Fields,
+    choice: Option<Choice>,
+    rest: Rest,
+}
+
+impl Model for Choice {
+    ghost use Rattle.std.specs.Prelude.{map};
+    ghost use Rattle.mig_template.specs.Parts.{Cases};
+    ghost use Rattle.mig_template.specs.Code.{coded_choice};
+
+    ghost Value = { Cases };
+
+    ghost coded = { coded_choice };
+
+    ghost use Rattle.mig_template.specs.Parts.{IsRecordOf, is_twice_named, has_no_case};
+    ghost use Rattle.mig_template.specs.Fault.{IsFault};
+    ghost use Rattle.mig_template.specs.View.{field_of, case_of, given_choice};
+
+    ghost view = { λ a. (a.tag, map case_of a.cases.items) };
+
+    ghost use Rattle.mig_template.specs.Size.{cases_in_size};
+
+    ghost size = { cases_in_size };
+
+    ghost use Rattle.std.proofs.Common.{arith};
+    ghost use Rattle.mig_template.specs.Falls.{most_cases};
+
+    ghost size_decreases = { λ a h. omega (arith, most_cases a.cases.items) };
+}
+
+impl Model for Record {
+    ghost use Rattle.mig_template.specs.Parts.{RecordParts};
+    ghost use Rattle.mig_template.specs.Code.{coded_record};
+
+    ghost Value = { RecordParts };
+
+    ghost coded = { coded_record };
+
+    ghost view = { λ a. record { fields = a.fields; choice = a.choice; rest = a.rest } };
+
+    ghost use Rattle.mig_template.specs.Kept.{RecordKept};
+
+    ghost invariant = { λ a. RecordKept (record { fields = a.fields; choice = a.choice; rest = a.rest }) };
+
+    ghost use Rattle.mig_template.specs.Size.{record_size};
+
+    ghost size = { record_size };
+
+    ghost use Rattle.std.proofs.Common.{arith};
+
+    ghost size_decreases = { λ a h. Prim.grind arith };
+}
+
+impl Case {
+    /// Whether the two are equal.
+    #[cycle(same)]
+    pub fn same(&self, other: &Case) -> bool
+        ensures { IsTrue result ↔ (case_of self.now ≡ case_of other.now) }
+    {
+        self.literal.bytes() == other.literal.bytes() && self.fields.same(&other.fields)
+    }
+}
+
+impl Choice {
+    ghost use Rattle.mig_model.specs.Template.{choice_has_point};
+    ghost use Rattle.mig_template.specs.Parts.{choice_of};
+
+    /// The name of the tag.
+    pub fn tag(&self) -> &Name
+        ensures { result.now ≡ self.now.0 }
+    {
+        &self.tag
+    }
+
+    /// The cases, ascending by literal.
+    pub fn cases(&self) -> &[Case]
+        ensures { map case_of result.now ≡ self.now.1 }
+    {
+        self.cases.as_slice()
+    }
+
+    /// Gives the tag's name and the cases up.
+    pub fn into_parts(self) -> (Name, Vec<Case>)
+        ensures tag { result.0 ≡ self.0 }
+        ensures cases { map case_of result.1.items ≡ self.1 }
+    {
+        let Choice { tag, cases } = self;
+        (tag, cases)
+    }
+
+    /// Whether a point occurs in a case.
+    #[cycle(points)]
+    pub fn has_point(&self) -> bool
+        ensures { result ≡ choice_has_point (choice_of (Some self.now)) }
+    {
+        for case in self.cases() {
+            if case.fields.has_point() {
+                return true;
+            }
+        }
+        false
+    }
+
+    /// An equal choice.
+    #[cycle(copy)]
+    pub fn copy(&self, alloc: Global) -> Result<Choice, Memory>
+        ensures { IfOk result (λ c. c ≡ self.now) }
+    {
+        let tag = self.tag().copy(alloc)?;
+        let mut cases = Vec::new(alloc);
+        for case in self.cases() {
+            let literal = case.literal.copy(alloc)?;
+            let fields = case.fields.copy(alloc)?;
+            cases.push(Case { literal, fields })?;
+        }
+        Ok(Choice { tag, cases })
+    }
+
+    /// Whether the two are equal.
+    #[cycle(same)]
+    pub fn same(&self, other: &Choice) -> bool
+        ensures { IsTrue result ↔ (self.now ≡ other.now) }
+    {
+        if self.tag().bytes() != other.tag().bytes() {
+            return false;
+        }
+        let list = self.cases();
+        let others = other.cases();
+        if list.len() != others.len() {
+            return false;
+        }
+        for at in 0..list.len() {
+            let one = &list[at];
+            let another = &others[at];
+            if !one.same(another) {
+                return false;
+            }
+        }
+        true
+    }
+}
+
+impl Record {
+    /// The record of these parts, which may come in any order. The rules are this project's own.
+    pub fn new(
+        alloc: Global,
+        fields: Vec<Field>,
+        choice: Option<(Name, Vec<(Name, Vec<Field>)>)>,
+        rest: Rest,
+    ) -> Result<Record, RecordFault>
+        ensures made { IfOk result (IsRecordOf (map field_of fields.items) (given_choice choice) rest) }
+        ensures once { IfOk result (λ r. is_twice_named (map field_of fields.items) (given_choice choice) ≡ false) }
+        ensures some { IfOk result (λ r. has_no_case (given_choice choice) ≡ false) }
+        ensures fault { IfErr result (λ e. IsFault e (is_twice_named (map field_of fields.items) (given_choice choice)) (has_no_case (given_choice choice))) }
+    {
+        let Some(fields) = order_fields(fields) else {
+            return Err(RecordFault::TwiceNamed);
+        };
+        let Some((tag, given)) = choice else {
+            return Ok(Record {
+                fields,
+                choice: None,
+                rest,
+            });
+        };
+        if fields.has(tag.bytes()) {
+            return Err(RecordFault::TwiceNamed);
+        }
+        let cases = order_cases(alloc, given, &tag, &fields)?;
+        if cases.is_empty() {
+            return Err(RecordFault::NoCase);
+        }
+        Ok(Record {
+            fields,
+            choice: Some(Choice { tag, cases }),
+            rest,
+        })
+    }
+
+    ghost use Rattle.mig_model.specs.Template.{has_point};
+    ghost use Rattle.mig_template.specs.Parts.{record_of};
+    ghost use Rattle.mig_template.specs.Kept.{RecordKept};
+
+    /// The common fields.
+    pub fn fields(&self) -> &Fields
+        ensures { result.now ≡ self.now.fields }
+    {
+        &self.fields
+    }
+
+    /// The choice, where there is one.
+    pub fn choice(&self) -> Option<&Choice>
+        ensures { option_map (λ c. c.now) result ≡ self.now.choice }
+    {
+        self.choice.as_ref()
+    }
+
+    /// Whether other names may stand there.
+    pub fn rest(&self) -> Rest
+        ensures { result ≡ self.now.rest }
+    {
+        self.rest
+    }
+
+    /// Gives the parts up.
+    pub fn into_parts(self) -> (Fields, Option<Choice>, Rest)
+        ensures fields { result.0 ≡ self.fields }
+        ensures choice { result.1 ≡ self.choice }
+        ensures rest { result.2 ≡ self.rest }
+        ensures keep { RecordKept self }
+    {
+        let Record {
+            fields,
+            choice,
+            rest,
+        } = self;
+        (fields, choice, rest)
+    }
+
+    /// Does nothing. Its contract tells what every record keeps at every depth.
+    pub fn keeps(&self)
+        ensures { RecordKept self.now }
+    {
+        let _rest = self.rest;
+    }
+
+    /// Whether a point occurs in it.
+    #[cycle(points)]
+    pub fn has_point(&self) -> bool
+        ensures { result ≡ has_point (record_of self.now) }
+    {
+        if self.fields().has_point() {
+            return true;
+        }
+        match self.choice() {
+            Some(choice) => choice.has_point(),
+            None => false,
+        }
+    }
+
+    /// An equal record.
+    #[cycle(copy)]
+    pub fn copy(&self, alloc: Global) -> Result<Record, Memory>
+        ensures { IfOk result (λ r. r ≡ self.now) }
+    {
+        self.keeps();
+        let fields = self.fields().copy(alloc)?;
+        let rest = self.rest();
+        match self.choice() {
+            Some(choice) => {
+                let choice = Some(choice.copy(alloc)?);
+                Ok(Record {
+                    fields,
+                    choice,
+                    rest,
+                })
+            }
+            None => Ok(Record {
+                fields,
+                choice: None,
+                rest,
+            }),
+        }
+    }
+
+    /// Whether the two are equal.
+    #[cycle(same)]
+    pub fn same(&self, other: &Record) -> bool
+        ensures { IsTrue result ↔ (self.now ≡ other.now) }
+    {
+        if self.rest() != other.rest() || !self.fields().same(other.fields()) {
+            return false;
+        }
+        match self.choice() {
+            Some(one) => match other.choice() {
+                Some(other) => one.same(other),
+                None => false,
+            },
+            None => other.choice().is_none(),
+        }
+    }
+}

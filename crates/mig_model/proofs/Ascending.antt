@@ -139,7 +139,7 @@ flips x y = reversed (by_bytes y x) (by_bytes x y) (nat_list_cmp_total.antisymm 
     reversed Equal s h = ap is_eq h
     reversed Greater s h = ap is_eq h
 
-abbrev Apart : List (List ℕ) → Type 0
+abbrev pub Apart : List (List ℕ) → Type 0
 Apart ks = IsDistinct (eq_by_cmp by_bytes) ks
 
 none_is_any : (name : List ℕ) (ks : List (List ℕ)) → AllByRecursion (λ y. eq_by_cmp by_bytes name y ≡ false) ks → list_any (eq_by_cmp by_bytes name) ks ≡ false
@@ -154,7 +154,7 @@ none_passes name (p ∷ ps) h = let b = parts (eq_by_cmp by_bytes name p.0) (lis
     parts false b e = (refl, e)
     parts true b e = absurd cc
 
-gathered_if_apart : (qs : List Pairing) → Apart (keys_of qs) → (ps : List Pairing) × (gathered qs ≡ Some ps)
+pub gathered_if_apart : (qs : List Pairing) → Apart (keys_of qs) → (ps : List Pairing) × (gathered qs ≡ Some ps)
 gathered_if_apart [] h = ([], refl)
 gathered_if_apart (q ∷ qs) h =
     let rest = gathered_if_apart qs (IsDistinct-tail (eq_by_cmp by_bytes) q.0 (keys_of qs) h) in

@@ -11,3 +11,5 @@ pub mod Rule
 pub mod Family
 pub mod Chain
 pub mod Place
+pub mod Ascends
+pub mod Leaf

@@ -103,6 +103,13 @@ impl SmallChain {
         self.missing
     }
 
+    /// The name of the one type, which is the root.
+    pub fn root(&self) -> &Name
+        ensures { result.now ≡ self.now.root }
+    {
+        &self.root
+    }
+
     /// The version of the first schema.
     pub fn first(&self) -> u32
         ensures { result ≡ self.now.first }

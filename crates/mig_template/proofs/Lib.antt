@@ -7,3 +7,4 @@ pub mod Places
 pub mod Smaller
 pub mod Sorted
 pub mod Views
+pub mod CasePlaces

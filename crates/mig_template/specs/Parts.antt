@@ -101,3 +101,8 @@ pub record IsRecordOf (fs : List Field) (c : Option Cases) (rest : Rest) (r : Re
   pub fields : IsOrderOf fs r.fields
   pub choice : IsChoiceOf c r.choice
   pub rest_is : rest ≡ r.rest
+
+-- the fields of the case with that literal
+abbrev pub found_case : List ℕ → Option Cases → Option (List Field)
+found_case l None = None
+found_case l (Some c) = lookup (is_at (by_bytes l)) c.1

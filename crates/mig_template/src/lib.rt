@@ -1,6 +1,7 @@
 //! Templates: what a save may be, with records whose names are distinct and whose fields and cases ascend.
 #![tactic(auto)]
 
+mod case_search;
 mod cases;
 mod fault;
 mod fields;

@@ -1,9 +1,17 @@
--- A place as text.
-use Rattle.std.specs.Prelude.{ℕ, List, [], ◌∷◌, flat_map}
+-- A place as plain data, and as text.
+use Rattle.std.specs.Prelude.{ℕ, List, [], ◌∷◌, map, flat_map}
 use Rattle.std.specs.Fmt.{decimal}
+use Rattle.mig_model.specs.Place.{PlaceStep, Place, named, index}
 use Rattle.mig_tree.specs.Spelling.{spelled_byte}
 use Rattle.mig_tree.specs.declared.place.Step.{Step}
 use Rattle.mig_tree.specs.declared.place.Step.TheVariants.{Named, Index}
+
+abbrev pub step_of : Step → PlaceStep
+step_of (Named n) = named n
+step_of (Index i) = index i
+
+abbrev pub place_of : List Step → Place
+place_of steps = map step_of steps
 
 -- a slash, and the spelled name or the number
 abbrev pub step_text : Step → List ℕ

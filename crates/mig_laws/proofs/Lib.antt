@@ -1,0 +1,12 @@
+pub mod Tests
+pub mod Parts
+pub mod Inhabitants
+pub mod WrongPlaces
+pub mod Sides
+pub mod Exact
+pub mod Formed
+pub mod Laws
+pub mod Reading
+pub mod Treats
+pub mod Folds
+mod Examples

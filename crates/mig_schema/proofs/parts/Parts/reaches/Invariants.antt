@@ -1,0 +1,9 @@
+use Rattle.std.proofs.Common.{◌-◌, length}
+use Rattle.mig_schema.proofs.Reached.{Searched}
+use Rattle.mig_schema.proofs.parts.Parts.reaches.Given as goal
+
+abbrev pub invariant-loop-at : goal.invariant-loop-at
+invariant-loop-at l = Searched l.self l.from l.found.keys l.at
+
+abbrev pub decreases-loop-at : goal.decreases-loop-at
+decreases-loop-at l = length l.self.types - l.at

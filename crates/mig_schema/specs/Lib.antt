@@ -1,0 +1,5 @@
+pub mod Types
+pub mod Code
+pub mod Fault
+pub mod Check
+pub mod Reach

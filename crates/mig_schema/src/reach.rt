@@ -1,0 +1,91 @@
+ghost use Rattle.std.specs.Prelude.{◌≡◌, ◌↔◌, ◌∷◌, [], Some, IsTrue, Contains, OnOk, IfOk, nat_eq};
+ghost use Rattle.indexmap.specs.IndexSet.{insert_all};
+ghost use Rattle.mig_model.specs.Family.{is_named};
+ghost use Rattle.mig_model.specs.Template.{fields_of, cases_of};
+ghost use Rattle.mig_template.specs.View.{template_of};
+ghost use Rattle.mig_schema.specs.Reach.{points, field_points, case_points, places, Reaches};
+
+use crate::named::NamedTypes;
+use crate::parts::Parts;
+use crate::{Memory, Name, Template};
+use indexmap::IndexSet;
+use mig_template::{Choice, Fields};
+use std::alloc::Global;
+
+impl NamedTypes {
+    /// Adds the place of the name, if it is a type.
+    fn add_place(&self, name: &Name, found: &mut IndexSet<usize>) -> Result<(), Memory>
+        ensures { OnOk result (found.new.keys ≡ insert_all nat_eq found.old.keys (places self.now (name.now ∷ []))) }
+    {
+        if let Some(place) = self.place_of(name) {
+            found.insert(place)?;
+        }
+        Ok(())
+    }
+
+    /// Adds the places of the types that the points in the template name.
+    #[cycle(places)]
+    fn add_places(&self, template: &Template, found: &mut IndexSet<usize>) -> Result<(), Memory>
+        ensures { OnOk result (found.new.keys ≡ insert_all nat_eq found.old.keys (places self.now (points (template_of template.now)))) }
+    {
+        match template {
+            Template::Leaf(_) | Template::Any => Ok(()),
+            Template::List(part) => self.add_places(part.get(), found),
+            Template::Point(name) => self.add_place(name, found),
+            Template::Rec(record) => {
+                self.add_field_places(record.fields(), found)?;
+                match record.choice() {
+                    Some(choice) => self.add_case_places(choice, found),
+                    None => Ok(()),
+                }
+            }
+            Template::Sum(left, right) => {
+                self.add_places(left.get(), found)?;
+                self.add_places(right.get(), found)
+            }
+        }
+    }
+
+    /// Adds the places of the types that the points in the fields name.
+    #[cycle(places)]
+    fn add_field_places(&self, fields: &Fields, found: &mut IndexSet<usize>) -> Result<(), Memory>
+        ensures { OnOk result (found.new.keys ≡ insert_all nat_eq found.old.keys (places self.now (field_points (fields_of fields.now)))) }
+    {
+        for field in fields.as_slice() {
+            self.add_places(&field.template, found)?;
+        }
+        Ok(())
+    }
+
+    /// Adds the places of the types that the points in the cases name.
+    #[cycle(places)]
+    fn add_case_places(&self, choice: &Choice, found: &mut IndexSet<usize>) -> Result<(), Memory>
+        ensures { OnOk result (found.new.keys ≡ insert_all nat_eq found.old.keys (places self.now (case_points (cases_of choice.now.1)))) }
+    {
+        for case in choice.cases() {
+            self.add_field_places(&case.fields, found)?;
+        }
+        Ok(())
+    }
+}
+
+impl Parts {
+    /// Whether the type of the first name reaches the other, which is a named type. It visits each body at most once.
+    pub fn reaches(&self, alloc: Global, from: &Name, to: &Name) -> Result<bool, Memory>
+        requires { IsTrue (is_named self.now to.now) }
+        ensures { IfOk result (λ b. IsTrue b ↔ Reaches self.now from.now to.now) }
+    {
+        self.keeps();
+        let types = self.types();
+        let mut found = IndexSet::new(alloc);
+        types.add_place(from, &mut found)?;
+        let mut at = 0;
+        while at < found.len() {
+            let body = types.body_at(found.as_slice()[at]);
+            types.add_places(body, &mut found)?;
+            at += 1;
+        }
+        let place = types.place_of(to).unwrap();
+        Ok(found.contains(&place))
+    }
+}

@@ -1,0 +1,15 @@
+pub mod Belonging
+pub mod Forms
+pub mod Gathered
+pub mod ItemLoop
+pub mod Loops
+pub mod Measures
+pub mod Pairs
+pub mod PartsOf
+pub mod ReadOf
+pub mod RowEnd
+pub mod RowLoop
+pub mod RowOf
+pub mod RowTyped
+pub mod Stops
+pub mod Whole

@@ -1,0 +1,164 @@
+-- A map that was read at a record is one of its values.
+use Rattle.std.proofs.Common.{◌≡◌, ℕ, List, [], ◌∷◌, Bool, true, false, true≢false, Option, Some, None, IsTrue, MatchBool, refl, sym, ap, ◌∙◌, subst}
+use Rattle.std.specs.Prelude.{◌||◌, ◌&&◌, is_some, if◌then◌else◌}
+use Rattle.std.specs.Map.{lookup}
+use Rattle.std.specs.BTreeMap.{is_at}
+use Rattle.mig_model.specs.Plain as plain
+use Rattle.mig_model.specs.Plain.{Plain}
+use Rattle.mig_model.specs.Names.{by_bytes, found}
+use Rattle.mig_model.specs.Inhabits.{Entries, has_musts}
+use Rattle.mig_model.specs.Family.{Family, body}
+use Rattle.mig_model.specs.Function.{is_field}
+use Rattle.mig_model.specs.Template.{Field, fields_of, choice, cases_of, same_name, no_field, no_choice}
+use Rattle.mig_template.specs.Parts as parts
+use Rattle.mig_template.specs.Parts.{RecordParts, found_field, choice_of}
+use Rattle.mig_template.proofs.Views.{field_list_of}
+use Rattle.mig_value.specs.Typed.{Typed, Tag, Slots, no_slot, slot, slots_of, out_slots, tag_pair}
+use Rattle.mig_value.specs.Parts as values
+use Rattle.mig_value.specs.Fit.{EachSlot, FieldsFit, ChoiceFits, CasesFit, TagFits, has_literal, has_case_musts, has_cased_musts, is_field_of_case, IsUnknown, FitAsRead, IsAtomOf}
+use Rattle.mig_laws.proofs.Tests.{same_name_is, same_name_itself, both_true}
+use Rattle.mig_codec.specs.Parted.{IsRowRead, is_tagged}
+use Rattle.mig_codec.specs.Reading.{IsTyped}
+use Rattle.mig_codec.specs.Row.{Row, Belongs, tagged, belongs, is_tag, in_case, in_fields}
+use Rattle.mig_codec.proofs.Belonging.{unknown_found, tagged_found}
+use Rattle.mig_codec.proofs.Gathered.{those}
+use Rattle.mig_codec.proofs.PartsOf.{found_in, case_if}
+use Rattle.mig_codec.proofs.RowEnd.{found_those}
+use Rattle.mig_codec.proofs.RowOf.{RowCase, untagged, tagged_as}
+
+each_slot : (P Q : List ℕ → Typed → Type 0) → ((n : List ℕ) (v : Typed) → P n v → Q n v) → (ss : Slots) → EachSlot P ss → EachSlot Q ss
+each_slot P Q f no_slot e = tt
+each_slot P Q f (slot n v ss) e = (f n v e.0, each_slot P Q f ss e.1)
+
+-- a case that is found
+pub literal_there : (s : List ℕ) (cs : List parts.Case) (ds : List Field) → found_in s cs ≡ Some ds → has_literal s (cases_of cs) ≡ true
+literal_there s [] ds e = absurd cc
+literal_there s (c ∷ cs) ds e = by (same_name s c.0) e (literal_there s cs ds)
+  where
+    by : (b : Bool) → case_if b c.1 (found_in s cs) ≡ Some ds → (found_in s cs ≡ Some ds → has_literal s (cases_of cs) ≡ true) → (b || has_literal s (cases_of cs)) ≡ true
+    by true k rest = refl
+    by false k rest = rest k
+
+case_musts : (s : List ℕ) (cs : List parts.Case) (ds : List Field) (es : Entries) → found_in s cs ≡ Some ds → has_case_musts s (cases_of cs) es ≡ has_musts (fields_of ds) es
+case_musts s [] ds es e = absurd cc
+case_musts s (c ∷ cs) ds es e = by (same_name s c.0) e (case_musts s cs ds es)
+  where
+    by : (b : Bool) → case_if b c.1 (found_in s cs) ≡ Some ds → (found_in s cs ≡ Some ds → has_case_musts s (cases_of cs) es ≡ has_musts (fields_of ds) es) → (if b then has_musts (fields_of c.1) es else has_case_musts s (cases_of cs) es) ≡ has_musts (fields_of ds) es
+    by true k rest = let is : c.1 ≡ ds = cc in ap (λ fs. has_musts (fields_of fs) es) is
+    by false k rest = rest k
+
+case_field : (n s : List ℕ) (cs : List parts.Case) (ds : List Field) → found_in s cs ≡ Some ds → is_field_of_case n s (cases_of cs) ≡ is_field n (fields_of ds)
+case_field n s [] ds e = absurd cc
+case_field n s (c ∷ cs) ds e = by (same_name s c.0) e (case_field n s cs ds)
+  where
+    by : (b : Bool) → case_if b c.1 (found_in s cs) ≡ Some ds → (found_in s cs ≡ Some ds → is_field_of_case n s (cases_of cs) ≡ is_field n (fields_of ds)) → (if b then is_field n (fields_of c.1) else is_field_of_case n s (cases_of cs)) ≡ is_field n (fields_of ds)
+    by true k rest = let is : c.1 ≡ ds = cc in ap (λ fs. is_field n (fields_of fs)) is
+    by false k rest = rest k
+
+cases_fit : (U : Typed → Type 0) (P : List ℕ → Typed → Type 0) (s : List ℕ) (cs : List parts.Case) (ds : List Field) → found_in s cs ≡ Some ds → (n : List ℕ) (v : Typed) → FieldsFit U P (fields_of ds) n v → CasesFit U P s (cases_of cs) n v
+cases_fit U P s [] ds e n v h = absurd cc
+cases_fit U P s (c ∷ cs) ds e n v h = by (same_name s c.0) e (λ k. cases_fit U P s cs ds k n v h)
+  where
+    by : (b : Bool) → case_if b c.1 (found_in s cs) ≡ Some ds → (found_in s cs ≡ Some ds → CasesFit U P s (cases_of cs) n v) → MatchBool b (FieldsFit U P (fields_of c.1) n v) (CasesFit U P s (cases_of cs) n v)
+    by true k rest = let is : c.1 ≡ ds = cc in subst (λ fs. FieldsFit U P (fields_of fs) n v) (sym is) h
+    by false k rest = rest k
+
+field_known : (n : List ℕ) (fs : List Field) → is_field n (fields_of fs) ≡ is_some (found_field n fs)
+field_known n fs = ap (λ l. is_some (lookup (is_at (by_bytes n)) l)) (field_list_of fs)
+
+true_is : (b : Bool) → b ≡ true → IsTrue b
+true_is true e = refl
+true_is false e = absurd (true≢false (sym e))
+
+and_true : (a b : Bool) → a ≡ true → IsTrue (a && true)
+and_true true b e = refl
+and_true false b e = absurd (true≢false (sym e))
+
+or_none : (a b : Bool) → a ≡ false → b ≡ false → (a || b) ≡ false
+or_none a b h k = λ i. h i || k i
+
+abbrev text_at : List ℕ → List ℕ → Option Plain → Option Plain → Option Plain
+text_at tag m o u = if same_name tag m then o else u
+
+abbrev some_tag : List ℕ → List ℕ → Option Tag
+some_tag m l = Some (m, l)
+
+-- the tag of the value is the one in the map
+tag_is : (row : Row) (es : Entries) (t : Option Tag) (tag s : List ℕ) → row.tag ≡ Some tag → tag_pair t ≡ those is_tagged row es → found tag es ≡ Some (plain.text s) → t ≡ some_tag tag s
+tag_is row es t tag s is pair text = by t (ap (found tag) pair ∙ found_those is_tagged row es tag (ap is_tagged here) ∙ text)
+  where
+    here : belongs row tag ≡ tagged
+    here = (λ i. if is_tag (is i) tag then tagged else in_fields (found_field tag row.fields) (in_case (found_field tag row.cased))) ∙ (λ i. if same_name_itself tag i then tagged else in_fields (found_field tag row.fields) (in_case (found_field tag row.cased)))
+
+    same : (m l : List ℕ) (b : Bool) → same_name tag m ≡ b → (if b then Some (plain.text l) else None) ≡ Some (plain.text s) → some_tag m l ≡ some_tag tag s
+    same m l true e k = let texts : plain.text l ≡ plain.text s = cc in let is' : l ≡ s = cc in λ i. some_tag (sym (same_name_is tag m e) i) (is' i)
+    same m l false e k = absurd cc
+
+    by : (t : Option Tag) → found tag (tag_pair t) ≡ Some (plain.text s) → t ≡ some_tag tag s
+    by None k = absurd cc
+    by (Some g) k = same g.0 g.1 (same_name tag g.0) refl k
+
+no_tag : (row : Row) (es : Entries) → row.tag ≡ None → those is_tagged row es ≡ []
+no_tag row [] is = refl
+no_tag row (e ∷ es) is = by (belongs row e.0) refl (no_tag row es is)
+  where
+    by : (b : Belongs) → belongs row e.0 ≡ b → those is_tagged row es ≡ [] → (if is_tagged b then e ∷ those is_tagged row es else those is_tagged row es) ≡ []
+    by tagged k rest = absurd (true≢false (sym (sym (ap (λ o. is_tag o e.0) is) ∙ tagged_found row e.0 k)))
+    by b k rest = rest
+
+untag : (t : Option Tag) → tag_pair t ≡ [] → t ≡ None
+untag None e = refl
+untag (Some g) e = absurd cc
+
+module _ (f : Family) (p : RecordParts) (es : Entries) (r : values.RecordParts) where
+  abbrev U : Typed → Type 0
+  U = IsAtomOf f.form
+
+  abbrev P : List ℕ → Typed → Type 0
+  P = FitAsRead f.form (body f)
+
+  abbrev RecordFits : Option parts.Cases → Option Tag → Type 0
+  RecordFits c t =
+      TagFits (choice_of c) t × IsTrue (has_musts (fields_of p.fields) (out_slots (slots_of r.fields)) && has_cased_musts (choice_of c) t (out_slots (slots_of r.cased))) × EachSlot (FieldsFit U P (fields_of p.fields)) (slots_of r.fields)
+      × EachSlot (ChoiceFits U P (choice_of c) t) (slots_of r.cased) × EachSlot (IsUnknown U (fields_of p.fields) (choice_of c) t p.rest) (slots_of r.rest)
+
+  in_untagged : IsRowRead f (record { fields = p.fields; tag = None; cased = []; rest = p.rest }) es r → RecordFits None None
+  in_untagged read = (
+    tt,
+    and_true (has_musts (fields_of p.fields) (out_slots (slots_of r.fields))) true read.field_musts,
+    read.fields,
+    each_slot (FieldsFit U P no_field) (ChoiceFits U P no_choice None) (λ n v h. absurd h) (slots_of r.cased) read.cased,
+    each_slot _ (IsUnknown U (fields_of p.fields) no_choice None p.rest)
+        (λ n v h. let out' = unknown_found row n h.0 in (or_none (is_field n (fields_of p.fields)) false (field_known n p.fields ∙ ap is_some out'.fields) refl, h.1, h.2))
+        (slots_of r.rest) read.rest,
+  )
+    where
+      row : Row
+      row = record { fields = p.fields; tag = None; cased = []; rest = p.rest }
+
+  in_tagged : (c : parts.Cases) (s : List ℕ) (ds : List Field) → found_in s c.1 ≡ Some ds → IsRowRead f (record { fields = p.fields; tag = Some c.0; cased = ds; rest = p.rest }) es r → RecordFits (Some c) (Some (c.0, s))
+  in_tagged c s ds e read = (
+    (refl, true_is (has_literal s (cases_of c.1)) (literal_there s c.1 ds e)),
+    true_is (has_musts (fields_of p.fields) (out_slots (slots_of r.fields)) && has_case_musts s (cases_of c.1) (out_slots (slots_of r.cased)))
+        (both_true (has_musts (fields_of p.fields) (out_slots (slots_of r.fields))) (has_case_musts s (cases_of c.1) (out_slots (slots_of r.cased))) read.field_musts (case_musts s c.1 ds (out_slots (slots_of r.cased)) e ∙ read.cased_musts)),
+    read.fields,
+    each_slot (FieldsFit U P (fields_of ds)) (CasesFit U P s (cases_of c.1)) (cases_fit U P s c.1 ds e) (slots_of r.cased) read.cased,
+    each_slot _ (IsUnknown U (fields_of p.fields) (choice c.0 (cases_of c.1)) (Some (c.0, s)) p.rest)
+        (λ n v h. let out' = unknown_found (record { fields = p.fields; tag = Some c.0; cased = ds; rest = p.rest }) n h.0 in (
+          or_none (is_field n (fields_of p.fields)) (same_name n c.0 || is_field_of_case n s (cases_of c.1)) (field_known n p.fields ∙ ap is_some out'.fields)
+              (or_none (same_name n c.0) (is_field_of_case n s (cases_of c.1)) out'.tag (case_field n s c.1 ds e ∙ field_known n ds ∙ ap is_some out'.cases)),
+          h.1,
+          h.2,
+        ))
+        (slots_of r.rest) read.rest,
+  )
+
+  pub row_typed : (row : Row) → RowCase p es row → IsRowRead f row es r → IsTyped f (parts.record_of p) (values.record_of r)
+  row_typed row (untagged none is) read =
+      let here : IsRowRead f (record { fields = p.fields; tag = None; cased = []; rest = p.rest }) es r = subst (λ w. IsRowRead f w es r) (sym is) read in
+      let tag : r.tag ≡ None = untag r.tag (here.tag ∙ no_tag (record { fields = p.fields; tag = None; cased = []; rest = p.rest }) es refl) in
+      subst (λ c. RecordFits c r.tag) (sym none) (subst (RecordFits None) (sym tag) (in_untagged here))
+  row_typed row (tagged_as c s ds there text e is) read =
+      let here : IsRowRead f (record { fields = p.fields; tag = Some c.0; cased = ds; rest = p.rest }) es r = subst (λ w. IsRowRead f w es r) (sym is) read in
+      let tag : r.tag ≡ some_tag c.0 s = tag_is (record { fields = p.fields; tag = Some c.0; cased = ds; rest = p.rest }) es r.tag c.0 s refl here.tag text in
+      subst (λ o. RecordFits o r.tag) (sym there) (subst (RecordFits (Some c)) (sym tag) (in_tagged c s ds e here))

@@ -1,0 +1,5 @@
+pub mod Nodes
+pub mod Row
+pub mod RowView
+pub mod Parted
+pub mod Reading

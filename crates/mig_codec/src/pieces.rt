@@ -1,0 +1,69 @@
+use mig_tree::{Memory, Text};
+use mig_value::{RecValue, Slot, Slots};
+use std::alloc::Global;
+
+/// What was read of a record's map so far.
+#[derive(Debug, Drop)]
+pub struct Pieces<'a> {
+    pub fields: Vec<Slot<'a>>,
+    pub tag: Option<(Text<'a>, Text<'a>)>,
+    pub cased: Vec<Slot<'a>>,
+    pub rest: Vec<Slot<'a>>,
+}
+
+/// A pair of a record's map that was read, where its name belongs.
+#[derive(Debug, Drop)]
+pub enum Placed<'a> {
+    Field(Slot<'a>),
+    Tag(Text<'a>, Text<'a>),
+    Cased(Slot<'a>),
+    Unknown(Slot<'a>),
+}
+
+impl<'a> Pieces<'a> {
+    ghost use Rattle.std.specs.Prelude.{◌≡◌, [], None, OnOk};
+    ghost use Rattle.mig_value.specs.Parts.{IsRecord};
+    ghost use Rattle.mig_codec.specs.Parted.{pieces_of, added};
+
+    /// Nothing yet.
+    pub fn new(alloc: Global) -> Pieces<'a>
+        ensures { pieces_of result ≡ record { fields = []; tag = None; cased = []; rest = [] } }
+    {
+        Pieces {
+            fields: Vec::new(alloc),
+            tag: None,
+            cased: Vec::new(alloc),
+            rest: Vec::new(alloc),
+        }
+    }
+
+    /// One more pair, behind those that are there.
+    pub fn add(&mut self, placed: Placed<'a>) -> Result<(), Memory>
+        ensures { OnOk result (pieces_of self.new ≡ added (pieces_of self.old) placed.entry) }
+    {
+        match placed {
+            Placed::Field(slot) => self.fields.push(slot)?,
+            Placed::Tag(name, literal) => {
+                let before = self.tag.replace((name, literal));
+                drop(before);
+            }
+            Placed::Cased(slot) => self.cased.push(slot)?,
+            Placed::Unknown(slot) => self.rest.push(slot)?,
+        }
+        Ok(())
+    }
+
+    /// The record value of these pieces, whose lists ascend and whose names are distinct.
+    pub fn into_record(self) -> RecValue<'a>
+        requires { IsRecord (pieces_of self) }
+        ensures { result ≡ pieces_of self.entry }
+    {
+        let Pieces {
+            fields,
+            tag,
+            cased,
+            rest,
+        } = self;
+        RecValue::new(Slots::new(fields), tag, Slots::new(cased), Slots::new(rest))
+    }
+}

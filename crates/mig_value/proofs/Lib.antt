@@ -1,0 +1,4 @@
+pub mod Views
+pub mod Fits
+pub mod Orders
+pub mod Places

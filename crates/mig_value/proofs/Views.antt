@@ -1,0 +1,26 @@
+-- Plain values and the lists that they are made of.
+use Rattle.std.proofs.Common.{◌≡◌, List, [], ◌∷◌, refl, sym, ap, subst}
+use Rattle.std.specs.List.Sorted.{IsStrictlySortedBy}
+use Rattle.mig_model.specs.Ascends.{Ascends}
+use Rattle.mig_value.specs.Typed.{Typed, Slot, items, items_of, slots, slots_of}
+use Rattle.mig_value.specs.Parts.{RecordParts, IsRecord, record_of}
+use Rattle.mig_value.specs.Kept.{IsKept, RecordKept}
+
+pub items_again : (vs : List Typed) → items (items_of vs) ≡ vs
+items_again [] = refl
+items_again (v ∷ vs) = ap (λ l. v ∷ l) (items_again vs)
+
+pub slots_again : (ss : List Slot) → slots (slots_of ss) ≡ ss
+slots_again [] = refl
+slots_again (s ∷ ss) = ap (λ l. s ∷ l) (slots_again ss)
+
+-- the parts of a record are those of its value
+pub parts_again : (p : RecordParts) → ◌≡◌ {A = RecordParts} (record { fields = slots (slots_of p.fields); tag = p.tag; cased = slots (slots_of p.cased); rest = slots (slots_of p.rest) }) p
+parts_again p = λ i. record { fields = slots_again p.fields i; tag = p.tag; cased = slots_again p.cased i; rest = slots_again p.rest i }
+
+pub record_kept : (p : RecordParts) → RecordKept p → IsKept (record_of p)
+record_kept p k = (subst IsRecord (sym (parts_again p)) k.0, k.1)
+
+pub nothing_ascends : (A : Type 0) → Ascends {A = A} []
+unfolding IsStrictlySortedBy
+nothing_ascends A = tt

@@ -1,0 +1,10 @@
+pub mod Typed
+pub mod Parts
+pub mod Kept
+pub mod Code
+pub mod Fit
+pub mod View
+pub mod Falls
+pub mod Leaf
+pub mod Law
+pub mod Places

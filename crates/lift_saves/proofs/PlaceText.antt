@@ -1,10 +1,9 @@
 -- The text of a place, by its steps or by the plain ones.
 use Rattle.std.proofs.Common.{◌≡◌, refl, List, [], ◌∷◌, ◌++◌}
 use Rattle.std.specs.Prelude.{flat_map}
-use Rattle.mig_tree.specs.Place.{step_text, place_text}
+use Rattle.mig_tree.specs.Place.{step_of, place_of, step_text, place_text}
 use Rattle.mig_tree.specs.declared.place.Step.{Step}
 use Rattle.mig_tree.specs.declared.place.Step.TheVariants.{Named, Index}
-use Rattle.mig_lift.specs.View.{step_of, place_of}
 use Rattle.lift_saves.specs.Lines.{step_line, place_line}
 
 pub same_step : (s : Step) → step_text s ≡ step_line (step_of s)

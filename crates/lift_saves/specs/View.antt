@@ -6,7 +6,7 @@ use Rattle.mig_small.specs.Small.{chain_of}
 use Rattle.mig_lift.specs.Lift.{Save, Cause}
 use Rattle.mig_lift.specs.Lift as lifting
 use Rattle.mig_lift.specs.Setting.{Setting}
-use Rattle.mig_lift.specs.View.{place_of}
+use Rattle.mig_tree.specs.Place.{place_of}
 use Rattle.lift_saves.specs.declared.chain.Due.{Due}
 use Rattle.lift_saves.specs.declared.chain.Due.TheVariants as due
 use Rattle.lift_saves.specs.declared.save.Verdict.{Verdict}

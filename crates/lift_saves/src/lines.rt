@@ -4,7 +4,7 @@ ghost use Rattle.mig_files.specs.Held.{Rose};
 ghost use Rattle.lift_saves.specs.Lines.{spelled, kind_line, place_line};
 ghost use Rattle.lift_saves.specs.Command.{Says};
 ghost use Rattle.lift_saves.specs.View.{found, tells, Told};
-ghost use Rattle.mig_lift.specs.View.{place_of};
+ghost use Rattle.mig_tree.specs.Place.{place_of};
 
 use crate::save::Verdict;
 use crate::stop::{Ending, Stop};

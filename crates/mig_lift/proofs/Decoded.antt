@@ -12,11 +12,12 @@ use Rattle.mig_json.proofs.Decoded.{decoded as json_decoded}
 use Rattle.mig_nbt.specs.Format.{NbtSave}
 use Rattle.mig_nbt.specs.Reading.{save_at}
 use Rattle.mig_nbt.proofs.Laws.{save_sound, save_complete}
+use Rattle.mig_tree.specs.declared.tree.Tree.{Tree}
 use Rattle.mig_small.specs.Small.{Small, chain_of}
 use Rattle.mig_lift.specs.Lift.{Save, Cause, lift, lift_tree, decoded, encoded, decode, bytes}
 use Rattle.mig_lift.specs.declared.fault.LiftFault.{LiftFault}
 use Rattle.mig_lift.specs.declared.fault.LiftFault.TheVariants as fault
-use Rattle.mig_lift.specs.View.{Causes, Lifts}
+use Rattle.mig_lift.specs.View.{Causes, Lifts, LiftsTree}
 
 module _ (s : Small) (aim : ℕ) (b : List ℕ) (e : s.form ≡ F.Nbt) where
   by_read : (o : Option (List ℕ × Plain)) → save_at b ≡ o → lift (chain_of s) aim b ≡ decoded (chain_of s) aim o
@@ -52,6 +53,10 @@ caused form name (fault.Schema p) r c = ap (encoded form name) c
 caused form name fault.Memory r c = tt
 
 -- a fault that is passed on
+pub passed_tree : (e : LiftFault) (r : Result (Tree × ℕ) LiftFault) (is : Result (Plain × ℕ) Cause) → IsErr r × IsErrAnd r (λ d. d ≡ e) → Causes e is → LiftsTree r is
+passed_tree e (Ok x) is given c = absurd (let h : false ≡ true = given.0 in cc)
+passed_tree e (Err d) is given c = subst (λ f. Causes f is) (sym given.1) c
+
 pub passed : {A : Type 0} (e : LiftFault) (r : Result (Vec ℕ A × ℕ) LiftFault) (is : Result Save Cause) → IsErr r × IsErrAnd r (λ d. d ≡ e) → Causes e is → Lifts r is
 passed e (Ok x) is given c = absurd (let h : false ≡ true = given.0 in cc)
 passed e (Err d) is given c = subst (λ f. Causes f is) (sym given.1) c

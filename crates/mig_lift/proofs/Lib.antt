@@ -6,3 +6,6 @@ pub mod Names
 pub mod Written
 pub mod Decoded
 pub mod Found
+pub mod InForm
+pub mod Leaves
+pub mod Families

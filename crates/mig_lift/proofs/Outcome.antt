@@ -5,17 +5,20 @@ use Rattle.std.proofs.lemmas.Bool.{le-ltb, lt-ltb, lt-leb, le-leb, ltb-true, ltb
 use Rattle.mig_model.specs.Place.{place}
 use Rattle.mig_model.specs.Plain.{Plain}
 use Rattle.mig_model.specs.Kinds.{IsMap, removed, put_in}
-use Rattle.mig_model.specs.Family.{Family, body}
+use Rattle.mig_model.specs.Family.{Family, body, IsFormed}
 use Rattle.mig_model.specs.Rule.{act, plain_rule}
 use Rattle.mig_model.specs.Chain.{fixed}
 use Rattle.mig_model.specs.Place.{Place}
 use Rattle.mig_small.specs.Small.{Small, LeafField, open_record, family_with, rule_of, chain_of, IsKept, Ascend}
 use Rattle.mig_lift.specs.declared.fault.VersionKind.{VersionKind}
 use Rattle.mig_lift.specs.declared.fault.VersionKind.TheVariants as V
+use Rattle.mig_tree.specs.Place.{place_of}
+use Rattle.mig_lift.specs.declared.fault.LiftFault.{LiftFault}
+use Rattle.mig_lift.specs.declared.fault.LiftFault.TheVariants as fault
+use Rattle.mig_lift.specs.View.{Causes, Checks}
 use Rattle.mig_lift.specs.Lift.{version, schema, version_of, version_tree, versioned, floored, placed, lift_tree}
-use Rattle.mig_lift.specs.FirstWrong.{first_wrong}
 use Rattle.mig_lift.proofs.Edits.{map_without}
-use Rattle.mig_lift.proofs.Accepted.{IsOrdered, placed_is, floor_is, first_before_second, plain_is, fixed_is}
+use Rattle.mig_lift.proofs.Accepted.{floor_is, first_before_second, formed_before, formed_after, plain_is, fixed_is}
 
 module _ (s : Small) (kept : IsKept s) (aim : ℕ) (t : Plain) where
   pub refused_version : (k : VersionKind) → version_of (chain_of s) t ≡ Err k → lift_tree (chain_of s) aim t ≡ Err (version k)
@@ -54,25 +57,24 @@ module _ (s : Small) (kept : IsKept s) (aim : ℕ) (t : Plain) where
           let h : nat_lt aim v ≡ true = lt-ltb aim v above in
           by_floor (Some (family_with s (fields_at (nat_lt v s.second)))) (floor_at l (nat_lt v s.second) refl) ∙ rw h refl
 
-      module _ (reach : v ≤ aim) (m : IsMap t) (o : IsOrdered (removed s.version t)) (b : Bool) (h : nat_lt v s.second ≡ b) where
-        by_place : (p : Option Place) → first_wrong (fields_at b) (removed s.version t) ≡ p → lift_tree (chain_of s) aim t ≡ placed (chain_of s) aim t v p
+      module _ (reach : v ≤ aim) (m : IsMap t) (b : Bool) (h : nat_lt v s.second ≡ b) where
+        by_place : (p : Option Place) → place (family_with s (fields_at b)) s.root (removed s.version t) ≡ p → lift_tree (chain_of s) aim t ≡ placed (chain_of s) aim t v p
         by_place p f =
             let below : nat_lt aim v ≡ false = le-ltb aim v reach in
             by_floor (Some (family_with s (fields_at b))) (floor_at l b h)
-            ∙ ap (λ c. cond c (Err (version (V.Above v))) (placed (chain_of s) aim t v (place_at (fields_at b)))) below
-            ∙ ap (placed (chain_of s) aim t v) (placed_is s (fields_at b) (removed s.version t) (ascends b) (map_without s.version t m) o ∙ f)
-          where
-            place_at : List LeafField → Option Place
-            place_at fs = place (family_with s fs) s.root (removed s.version t)
+            ∙ ap (λ c. cond c (Err (version (V.Above v))) (placed (chain_of s) aim t v (place (family_with s (fields_at b)) s.root (removed s.version t)))) below
+            ∙ ap (placed (chain_of s) aim t v) f
 
-            ascends : (c : Bool) → Ascend (fields_at c)
-            ascends true = kept.before
-            ascends false = kept.after
-
-        pub refused_schema : (p : Place) → first_wrong (fields_at b) (removed s.version t) ≡ Some p → lift_tree (chain_of s) aim t ≡ Err (schema p)
+        refused_schema : (p : Place) → place (family_with s (fields_at b)) s.root (removed s.version t) ≡ Some p → lift_tree (chain_of s) aim t ≡ Err (schema p)
         refused_schema p f = by_place (Some p) f
 
-        pub lifted : first_wrong (fields_at b) (removed s.version t) ≡ None
+        pub refused_by : (e : LiftFault) → Checks (Err e) (family_with s (fields_at b)) (removed s.version t) → Causes e (lift_tree (chain_of s) aim t)
+        refused_by fault.Bytes h = absurd h
+        refused_by (fault.Version k) h = absurd h
+        refused_by (fault.Schema p) h = refused_schema (place_of p) h
+        refused_by fault.Memory h = tt
+
+        pub lifted : place (family_with s (fields_at b)) s.root (removed s.version t) ≡ None
             → lift_tree (chain_of s) aim t ≡ Ok (put_in s.version (version_tree s.form aim) (cond (b && nat_le s.second aim) (act (rule_of s) s.root (open_record s.before) (removed s.version t)) (removed s.version t)), v)
         lifted f =
             let u = removed s.version t in
@@ -80,3 +82,12 @@ module _ (s : Small) (kept : IsKept s) (aim : ℕ) (t : Plain) where
             fixed_is s v aim u ∙ ap (λ c. cond (c && nat_le s.second aim) (plain_rule (rule_of s) s.form (body (family_with s s.before)) s.root u) u) h
             ∙ ap (λ w. cond (b && nat_le s.second aim) w u) (plain_is s kept.accepted u (map_without s.version t m)) in
             by_place None f ∙ ap (λ w. Ok (put_in s.version (version_tree s.form aim) w, v)) done
+
+-- the fields of each schema ascend
+pub ascends_at : (s : Small) → IsKept s → (b : Bool) → Ascend (cond b s.before s.after)
+ascends_at s kept true = kept.before
+ascends_at s kept false = kept.after
+
+pub formed_at : (s : Small) → IsKept s → (b : Bool) → IsFormed (family_with s (cond b s.before s.after))
+formed_at s kept true = formed_before s kept.accepted
+formed_at s kept false = formed_after s kept.accepted

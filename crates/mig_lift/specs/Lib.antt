@@ -2,4 +2,3 @@ pub mod Lift
 pub mod View
 pub mod Setting
 pub mod Writable
-pub mod FirstWrong

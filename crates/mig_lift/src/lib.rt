@@ -5,7 +5,7 @@ mod fault;
 mod fix;
 mod lifting;
 mod migrator;
-mod place;
+mod schema;
 mod version;
 
 pub use fault::{LiftFault, NewFault, VersionKind};

@@ -10,15 +10,16 @@ ghost use Rattle.mig_lift.specs.View.{Lifts, LiftsTree};
 ghost use Rattle.mig_lift.specs.Writable.{IsWritable};
 
 use crate::fix::{fix, take_out};
-use crate::place::first_wrong;
+use crate::schema::read_by_schema;
 use crate::version::{version_of, version_tree};
 use crate::{LiftFault, VersionKind};
 use mig_json::JsonError;
 use mig_model::Form;
 use mig_nbt::NbtError;
 use mig_small::{SmallChain, SmallField};
-use mig_tree::{Memory, Text, Tree};
+use mig_tree::{Memory, Steps, Text, Tree};
 use std::alloc::Global;
+use std::sync::ledger::Ledger;
 
 /// Whether a save of the version gets the fix on the way to the target.
 fn is_due(chain: &SmallChain, version: u32, target: u32) -> bool
@@ -53,11 +54,12 @@ fn fix_if<'a>(chain: &'a SmallChain, due: bool, tree: &mut Tree<'a>) -> Result<(
 }
 
 /// Lifts the tree of a save. What can be written before can be written after.
-fn lift_tree<'a>(
+fn lift_tree<'a, L: Ledger>(
     alloc: Global,
     chain: &'a SmallChain,
     target: u32,
     mut tree: Tree<'a>,
+    steps: &mut Steps<L>,
 ) -> Result<(Tree<'a>, u32), LiftFault>
     requires target { target ≤ 2147483647 }
     requires map { IsMap (plain_of tree) }
@@ -65,6 +67,7 @@ fn lift_tree<'a>(
     ensures lifts { LiftsTree result (lift_tree (chain_of chain.now) target (plain_of tree.entry)) }
     ensures map { IfOk result (λ x. IsMap (plain_of x.0)) }
     ensures writable { IfOk result (λ x. IsWritable chain.now.form (plain_of x.0)) }
+    ensures count { steps.new ≡ steps.old }
 {
     chain.keeps();
     let version = match version_of(chain, &tree) {
@@ -72,51 +75,52 @@ fn lift_tree<'a>(
         Err(kind) => return Err(LiftFault::Version(kind)),
     };
     take_out(&mut tree, chain.version_name());
-    tree.keeps();
     if version < chain.first() {
         return Err(LiftFault::Version(VersionKind::Below(version)));
     }
     if target < version {
         return Err(LiftFault::Version(VersionKind::Above(version)));
     }
-    if let Some(place) = first_wrong(alloc, fields_at(chain, version), &tree)? {
-        return Err(LiftFault::Schema(place));
-    }
+    let mut tree = read_by_schema(alloc, chain, fields_at(chain, version), tree, steps)?;
     fix_if(chain, is_due(chain, version, target), &mut tree)?;
     let number = version_tree(chain.form(), target);
     tree.put(Text::lent(chain.version_name().bytes()), number)?;
     Ok((tree, version))
 }
 
-fn lift_nbt(
+fn lift_nbt<L: Ledger>(
     alloc: Global,
     chain: &SmallChain,
     target: u32,
     bytes: &[u8],
+    steps: &mut Steps<L>,
 ) -> Result<(Vec<u8>, u32), LiftFault>
     requires target { target ≤ 2147483647 }
     requires form { chain.now.form ≡ Nbt }
-    ensures { Lifts result (lift (chain_of chain.now) target bytes.now) }
+    ensures lifts { Lifts result (lift (chain_of chain.now) target bytes.now) }
+    ensures count { steps.new ≡ steps.old }
 {
     let (name, tree) = match mig_nbt::read(alloc, bytes) {
         Ok(found) => found,
         Err(NbtError::Wrong) => return Err(LiftFault::Bytes),
         Err(NbtError::Memory) => return Err(LiftFault::Memory),
     };
-    let (tree, version) = lift_tree(alloc, chain, target, tree)?;
+    let (tree, version) = lift_tree(alloc, chain, target, tree, steps)?;
     let written = mig_nbt::write(alloc, name.bytes(), &tree)?;
     Ok((written, version))
 }
 
-fn lift_json(
+fn lift_json<L: Ledger>(
     alloc: Global,
     chain: &SmallChain,
     target: u32,
     bytes: &[u8],
+    steps: &mut Steps<L>,
 ) -> Result<(Vec<u8>, u32), LiftFault>
     requires target { target ≤ 2147483647 }
     requires form { chain.now.form ≡ Json }
-    ensures { Lifts result (lift (chain_of chain.now) target bytes.now) }
+    ensures lifts { Lifts result (lift (chain_of chain.now) target bytes.now) }
+    ensures count { steps.new ≡ steps.old }
 {
     let document = match mig_json::parse(alloc, bytes) {
         Ok(document) => document,
@@ -124,23 +128,25 @@ fn lift_json(
         Err(JsonError::Memory) => return Err(LiftFault::Memory),
     };
     let tree = document.tree(alloc)?;
-    let (tree, version) = lift_tree(alloc, chain, target, tree)?;
+    let (tree, version) = lift_tree(alloc, chain, target, tree, steps)?;
     let written = mig_json::write(alloc, &tree)?;
     Ok((written, version))
 }
 
 /// Lifts the bytes of a save.
-pub fn lift_bytes(
+pub fn lift_bytes<L: Ledger>(
     alloc: Global,
     chain: &SmallChain,
     target: u32,
     bytes: &[u8],
+    steps: &mut Steps<L>,
 ) -> Result<(Vec<u8>, u32), LiftFault>
     requires { target ≤ 2147483647 }
-    ensures { Lifts result (lift (chain_of chain.now) target bytes.now) }
+    ensures lifts { Lifts result (lift (chain_of chain.now) target bytes.now) }
+    ensures count { steps.new ≡ steps.old }
 {
     match chain.form() {
-        Form::Nbt => lift_nbt(alloc, chain, target, bytes),
-        Form::Json => lift_json(alloc, chain, target, bytes),
+        Form::Nbt => lift_nbt(alloc, chain, target, bytes, steps),
+        Form::Json => lift_json(alloc, chain, target, bytes, steps),
     }
 }

@@ -70,6 +70,6 @@ impl Migrator {
         ensures lifts { Lifts result (lift (chain_of self.now.chain) self.now.target bytes.now) }
         ensures count { steps.new ≡ steps.old }
     {
-        lift_bytes(alloc, &self.chain, self.target, bytes)
+        lift_bytes(alloc, &self.chain, self.target, bytes, steps)
     }
 }

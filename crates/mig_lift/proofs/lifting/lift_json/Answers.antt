@@ -7,11 +7,11 @@ use Rattle.mig_lift.specs.View.{Causes}
 use Rattle.mig_lift.proofs.Decoded.{no_json, some_json, caused, passed}
 use Rattle.mig_lift.proofs.lifting.lift_json.Goals as goal
 
-pub returns-in-Err-Wrong : goal.returns-in-Err-Wrong
-returns-in-Err-Wrong c = no_json c.args.chain.now c.args.target c.args.bytes.now c.requires.form (c.in-Err-Wrong.ensures.wrong (ap Err c.in-Err-Wrong.field-0-is))
+pub returns-in-Err-Wrong-clause-lifts : goal.returns-in-Err-Wrong-clause-lifts
+returns-in-Err-Wrong-clause-lifts g c = no_json c.args.chain.now c.args.target c.args.bytes.now c.requires.form (c.in-Err-Wrong.ensures.wrong (ap Err c.in-Err-Wrong.field-0-is))
 
-pub returns-in_err-tree-2 : goal.returns-in_err-tree-2
-returns-in_err-tree-2 c =
+pub returns-in_err-tree-2-clause-lifts : goal.returns-in_err-tree-2-clause-lifts
+returns-in_err-tree-2-clause-lifts g c =
     let s = c.args.chain.now in
     let t = plain_of c.in_ok-tree.tree in
     let save : JsonSave c.args.bytes.now t = subst (JsonSave c.args.bytes.now) (sym c.in_ok-tree.ensures.tree) c.in-Ok.ensures.found in
@@ -20,8 +20,8 @@ returns-in_err-tree-2 c =
     passed c.in_err-tree-2.field-0.0 c.from_residual-in_err-tree-2.result (lift (chain_of s) c.args.target c.args.bytes.now) c.from_residual-in_err-tree-2.ensures
     (subst (Causes c.in_err-tree-2.field-0.0) (sym decoded) (caused s.form [] c.in_err-tree-2.field-0.0 (lift_tree (chain_of s) c.args.target t) c.in_err-tree-2.ensures.lifts))
 
-pub returns : goal.returns
-returns c =
+pub returns-clause-lifts : goal.returns-clause-lifts
+returns-clause-lifts g c =
     let s = c.args.chain.now in
     let t = plain_of c.in_ok-tree.tree in
     let save : JsonSave c.args.bytes.now t = subst (JsonSave c.args.bytes.now) (sym c.in_ok-tree.ensures.tree) c.in-Ok.ensures.found in

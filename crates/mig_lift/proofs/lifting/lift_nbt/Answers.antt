@@ -7,19 +7,19 @@ use Rattle.mig_nbt.specs.Writing.{save_text}
 use Rattle.mig_lift.proofs.Decoded.{nothing, something, caused, passed}
 use Rattle.mig_lift.proofs.lifting.lift_nbt.Goals as goal
 
-pub returns-in-Err-Wrong : goal.returns-in-Err-Wrong
-returns-in-Err-Wrong c = nothing c.args.chain.now c.args.target c.args.bytes.now c.requires.form (c.in-Err-Wrong.ensures.wrong (ap Err c.in-Err-Wrong.field-0-is))
+pub returns-in-Err-Wrong-clause-lifts : goal.returns-in-Err-Wrong-clause-lifts
+returns-in-Err-Wrong-clause-lifts g c = nothing c.args.chain.now c.args.target c.args.bytes.now c.requires.form (c.in-Err-Wrong.ensures.wrong (ap Err c.in-Err-Wrong.field-0-is))
 
-pub returns-in_err-tree : goal.returns-in_err-tree
-returns-in_err-tree c =
+pub returns-in_err-tree-clause-lifts : goal.returns-in_err-tree-clause-lifts
+returns-in_err-tree-clause-lifts g c =
     let s = c.args.chain.now in
     let decoded : lift (chain_of s) c.args.target c.args.bytes.now ≡ encoded s.form c.in-Ok.found.0 (lift_tree (chain_of s) c.args.target (plain_of c.in-Ok.found.1)) =
     something s c.args.target c.args.bytes.now c.requires.form c.in-Ok.found.0 (plain_of c.in-Ok.found.1) c.in-Ok.ensures.found in
     passed c.in_err-tree.field-0.0 c.from_residual.result (lift (chain_of s) c.args.target c.args.bytes.now) c.from_residual.ensures
     (subst (Causes c.in_err-tree.field-0.0) (sym decoded) (caused s.form c.in-Ok.found.0 c.in_err-tree.field-0.0 (lift_tree (chain_of s) c.args.target (plain_of c.in-Ok.found.1)) c.in_err-tree.ensures.lifts))
 
-pub returns : goal.returns
-returns c =
+pub returns-clause-lifts : goal.returns-clause-lifts
+returns-clause-lifts g c =
     let s = c.args.chain.now in
     let decoded : lift (chain_of s) c.args.target c.args.bytes.now ≡ encoded s.form c.in-Ok.found.0 (lift_tree (chain_of s) c.args.target (plain_of c.in-Ok.found.1)) =
     something s c.args.target c.args.bytes.now c.requires.form c.in-Ok.found.0 (plain_of c.in-Ok.found.1) c.in-Ok.ensures.found in

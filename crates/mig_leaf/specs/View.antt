@@ -1,7 +1,10 @@
--- What a constant is, wherever its text lies in memory.
+-- What a constant and a leaf function are, wherever their texts lie in memory.
 use Rattle.mig_leaf.specs.declared.constant.Const.{Const}
 use Rattle.mig_leaf.specs.declared.constant.Const.TheVariants as V
+use Rattle.mig_leaf.specs.declared.leaf_fn.LeafFn.{LeafFn}
+use Rattle.mig_leaf.specs.declared.leaf_fn.LeafFn.TheVariants as F
 use Rattle.mig_model.specs.Function as model
+use Rattle.mig_model.specs.Leaf as leaf
 
 abbrev pub const_of : Const → model.Const
 const_of (V.Byte z) = model.byte z
@@ -17,3 +20,16 @@ const_of V.Null = model.null
 const_of V.NoBytes = model.no_bytes
 const_of V.NoInts = model.no_ints
 const_of V.NoLongs = model.no_longs
+
+abbrev pub leaf_fn_of : LeafFn → leaf.LeafFn
+leaf_fn_of (F.Const c) = leaf.constant (const_of c)
+leaf_fn_of (F.Plus n) = leaf.plus n
+leaf_fn_of (F.Times n) = leaf.times n
+leaf_fn_of (F.Clamp low high) = leaf.clamp_to low high
+leaf_fn_of (F.To k) = leaf.to_kind k
+leaf_fn_of F.ToText = leaf.to_text
+leaf_fn_of (F.OfText c) = leaf.of_text (const_of c)
+leaf_fn_of (F.Table ps) = leaf.table ps.items
+leaf_fn_of (F.Prefix p) = leaf.prefix p
+leaf_fn_of (F.Strip p) = leaf.strip p
+leaf_fn_of F.Lower = leaf.lower

@@ -1,6 +1,13 @@
-//! Constants of leaf kinds.
+//! Constants of leaf kinds, and functions on leaves.
 #![tactic(auto)]
 
 mod constant;
+mod leaf_fn;
+mod number;
+mod text;
 
 pub use constant::Const;
+pub use leaf_fn::LeafFn;
+
+#[cfg(test)]
+mod tests;

@@ -1,0 +1,9 @@
+pub mod Sequences
+pub mod Records
+pub mod Over
+pub mod Again
+pub mod Frames
+pub mod Changes
+pub mod Openings
+pub mod Samples
+pub mod Thens

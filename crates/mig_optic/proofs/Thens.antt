@@ -1,0 +1,138 @@
+-- The loops of an optic after another.
+use Rattle.std.proofs.Common.{◌≡◌, ◌+◌, ◌<◌, ◌≤◌, ◌∙◌, sym, ap, subst, refl, ℕ, zero, suc, List, [], ◌∷◌, ◌++◌, length, map, take, drop, reverse, get_or, arith}
+use Rattle.std.specs.List.{flat_map, AllByRecursion}
+use Rattle.std.proofs.lemmas.List.{reverse-append, reverse-reverse}
+use Rattle.mig_value.specs.Typed.{Typed}
+use Rattle.mig_value.specs.View.{typed_of}
+use Rattle.mig_value.specs.declared.value.Value.{Value}
+use Rattle.mig_optic.specs.Path.{Path, foci, crossed, total_of}
+use Rattle.mig_optic.specs.Rest.{Rest, both, Groups, no_group, group, part_of, groups_of, joins, join, AreFormed, group_count, total, Fits}
+use Rattle.mig_optic.specs.Code.{rest_size, list_size}
+use Rattle.mig_optic.proofs.Sequences.{append_nil, append_assoc, map_append, length_more, length_take, length_drop, map_take, map_drop, length_views}
+
+-- ---- values that are parted one after another
+flat_more : {A B : Type 0} (f : A → List B) (xs : List A) (y : A) → flat_map f (xs ++ y ∷ []) ≡ flat_map f xs ++ f y
+flat_more f [] y = append_nil (f y)
+flat_more f (x ∷ xs) y = ap (λ l. f x ++ l) (flat_more f xs y) ∙ sym (append_assoc (f x) (flat_map f xs) (f y))
+
+total_more : {A : Type 0} (f : A → ℕ) (xs : List A) (y : A) → total_of f (xs ++ y ∷ []) ≡ total_of f xs + f y
+total_more f [] y = omega arith
+total_more f (x ∷ xs) y = let i = total_more f xs y in omega (arith, i)
+
+-- the foci, the groups and the count after some of the values
+pub record Parted (q : Path) (fs : List Typed) (gs : List (ℕ × Rest)) (n start : ℕ) (vs : List Typed) : Type 0 where
+  pub foci_are : fs ≡ flat_map (foci q) vs
+  pub groups_are : gs ≡ map (part_of q) vs
+  pub counts : n ≡ start + total_of (crossed q) vs
+
+parted_step : (q : Path) (fs : List Typed) (gs : List (ℕ × Rest)) (n start : ℕ) (vs : List Typed) (w : Typed) → Parted q fs gs n start vs → Parted q (fs ++ foci q w) (gs ++ part_of q w ∷ []) (n + crossed q w) start (vs ++ w ∷ [])
+parted_step q fs gs n start vs w h = record {
+  foci_are = ap (λ l. l ++ foci q w) h.foci_are ∙ sym (flat_more (foci q) vs w);
+  groups_are = ap (λ l. l ++ part_of q w ∷ []) h.groups_are ∙ sym (map_append (part_of q) vs (w ∷ []));
+  counts = let c = h.counts in let t = total_more (crossed q) vs w in omega (arith, c, t);
+}
+
+pub parted_init : {G : Type 0} (q : Path) (f : G → ℕ × Rest) (n : ℕ) (fs : List Value) (gs : List G) (vs : List Value) → fs ≡ [] → gs ≡ [] → vs ≡ [] → Parted q (map typed_of fs) (map f gs) n n (map typed_of vs)
+parted_init q f n fs gs vs a b d =
+    rw (a, b, d) (record { foci_are = refl; groups_are = refl; counts = omega arith })
+
+pub parted_next : {G : Type 0} (q : Path) (f : G → ℕ × Rest) (n m start : ℕ) (fs fs' more : List Value) (gs gs' : List G) (x : G) (vs : List Value) (w : Value) → fs' ≡ fs ++ more → gs' ≡ gs ++ x ∷ [] → map typed_of more ≡ foci q (typed_of w) → f x ≡ part_of q (typed_of w) → m ≡ n + crossed q (typed_of w) → Parted q (map typed_of fs) (map f gs) n start (map typed_of vs) → Parted q (map typed_of fs') (map f gs') m start (map typed_of (vs ++ w ∷ []))
+parted_next q f n m start fs fs' more gs gs' x vs w ef eg em ex en h =
+    let a : map typed_of fs' ≡ map typed_of fs ++ foci q (typed_of w) = ap (map typed_of) ef ∙ map_append typed_of fs more ∙ ap (λ (l : List Typed). map typed_of fs ++ l) em in
+    let b : map f gs' ≡ map f gs ++ part_of q (typed_of w) ∷ [] = ap (map f) eg ∙ map_append f gs (x ∷ []) ∙ ap (λ (y : ℕ × Rest). map f gs ++ y ∷ []) ex in
+    let d : map typed_of (vs ++ w ∷ []) ≡ map typed_of vs ++ typed_of w ∷ [] = map_append typed_of vs (w ∷ []) in
+    rw (a, b, en, d) (parted_step q (map typed_of fs) (map f gs) n start (map typed_of vs) (typed_of w) h)
+
+-- each of the values is taken
+pub taken : (P : Typed → Type 0) (vs : List Value) (k : ℕ) (w : Value) → AllByRecursion P (map typed_of vs) → k < length vs → w ≡ get_or vs k w → P (typed_of w)
+taken P [] k w h l e = absurd (omega arith)
+taken P (v ∷ vs) zero w h l e = subst (λ (u : Value). P (typed_of u)) (sym e) h.0
+taken P (v ∷ vs) (suc k) w h l e = taken P vs k w h.1 (omega arith) e
+
+-- ---- residues that are rejoined one after another
+-- the values so far with those of the groups and foci that are left
+pub record Rejoins (vs : List Typed) (gs : List (ℕ × Rest)) (fs all : List Typed) : Type 0 where
+  pub values_are : vs ++ joins (groups_of gs) fs ≡ all
+  pub formed : AreFormed (groups_of gs)
+  pub enough : length fs ≡ total (groups_of gs)
+
+rejoins_step : (vs : List Typed) (n : ℕ) (s : Rest) (gs : List (ℕ × Rest)) (fs all : List Typed) → Rejoins vs ((n, s) ∷ gs) fs all → Rejoins (vs ++ join s (take n fs) ∷ []) gs (drop n fs) all
+rejoins_step vs n s gs fs all h = record {
+  values_are = append_assoc vs (join s (take n fs) ∷ []) (joins (groups_of gs) (drop n fs)) ∙ h.values_are;
+  formed = h.formed.2;
+  enough = length_drop n (total (groups_of gs)) fs h.enough;
+}
+
+pub rejoins_end : (vs : List Typed) (fs all : List Typed) → Rejoins vs [] fs all → vs ≡ all
+rejoins_end vs fs all h = sym (append_nil vs) ∙ h.values_are
+
+next_group : {G : Type 0} (gs : List G) (k : ℕ) (x : G) → k < length gs → x ≡ get_or gs k x → drop k gs ≡ x ∷ drop (suc k) gs
+next_group [] k x l e = absurd (omega arith)
+next_group (g ∷ gs) zero x l e = ap (λ y. y ∷ gs) (sym e)
+next_group (g ∷ gs) (suc k) x l e = next_group gs k x (omega arith) e
+
+none_left : {G : Type 0} (gs : List G) (k : ℕ) → length gs ≤ k → drop k gs ≡ []
+none_left [] zero l = refl
+none_left [] (suc k) l = refl
+none_left (g ∷ gs) zero l = absurd (omega arith)
+none_left (g ∷ gs) (suc k) l = none_left gs k (omega arith)
+
+-- the rest of a group is smaller than all groups
+pub smaller : {G : Type 0} (f : G → ℕ × Rest) (gs : List G) (k : ℕ) (x : G) → k < length gs → x ≡ get_or gs k x → rest_size (f x).1 < list_size (map f gs)
+smaller f [] k x l e = absurd (omega arith)
+smaller f (g ∷ gs) zero x l e = let same = ap (λ y. rest_size (f y).1) e in omega (arith, same)
+smaller f (g ∷ gs) (suc k) x l e = let i = smaller f gs k x (omega arith) e in omega (arith, i)
+
+module _ {G : Type 0} (f : G → ℕ × Rest) (gs : List G) (all : List Typed) where
+  pub rejoins_init : (vs fs rs : List Value) → vs ≡ [] → rs ≡ reverse fs → all ≡ joins (groups_of (map f gs)) (map typed_of fs) → AreFormed (groups_of (map f gs)) → length fs ≡ total (groups_of (map f gs)) → Rejoins (map typed_of vs) (map f gs) (map typed_of (reverse rs)) all
+  rejoins_init vs fs rs e r a formed enough =
+      let b : map typed_of (reverse rs) ≡ map typed_of fs = ap (λ (l : List Value). map typed_of (reverse l)) r ∙ ap (map typed_of) (reverse-reverse fs) in
+      let d : map typed_of vs ≡ [] = ap (map typed_of) e in
+      rw (b, d) (record { values_are = sym a; formed = formed; enough = length_views fs ∙ enough })
+
+  -- the next group, whose foci are there
+  pub first_group : (vs fs : List Typed) (k : ℕ) (x : G) → k < length gs → x ≡ get_or gs k x → Rejoins vs (map f (drop k gs)) fs all → Rejoins vs (f x ∷ map f (drop (suc k) gs)) fs all
+  first_group vs fs k x l e h = subst (λ (hs : List G). Rejoins vs (map f hs) fs all) (next_group gs k x l e) h
+
+  -- its foci are as many as its rest wants
+  pub front_fits : (vs : List Typed) (fs ls : List Value) (k : ℕ) (x : G) → k < length gs → x ≡ get_or gs k x → ls ≡ take (f x).0 (reverse fs) → Rejoins vs (map f (drop k gs)) (map typed_of (reverse fs)) all → Fits (f x).1 (length ls)
+  front_fits vs fs ls k x l e el h =
+      let first = first_group vs (map typed_of (reverse fs)) k x l e h in
+      let enough : (f x).0 ≤ length (reverse fs) = omega (arith, first.enough, length_views (reverse fs)) in
+      (first.formed.0, ap length el ∙ length_take (f x).0 (reverse fs) enough ∙ first.formed.1)
+
+  pub rejoins_next : (vs vs' fs fs' ls : List Value) (u : Value) (k m : ℕ) (x : G) → k < length gs → x ≡ get_or gs k x → m ≡ suc k → vs' ≡ vs ++ u ∷ [] → reverse fs' ≡ drop (f x).0 (reverse fs) → ls ≡ take (f x).0 (reverse fs) → typed_of u ≡ join (f x).1 (map typed_of ls) → Rejoins (map typed_of vs) (map f (drop k gs)) (map typed_of (reverse fs)) all → Rejoins (map typed_of vs') (map f (drop m gs)) (map typed_of (reverse fs')) all
+  rejoins_next vs vs' fs fs' ls u k m x l e em ev ef el eu h =
+      let n : ℕ = (f x).0 in
+      let a : map typed_of vs' ≡ map typed_of vs ++ join (f x).1 (take n (map typed_of (reverse fs))) ∷ [] =
+      ap (map typed_of) ev ∙ map_append typed_of vs (u ∷ []) ∙ ap (λ (w : Typed). map typed_of vs ++ w ∷ []) (eu ∙ ap (join (f x).1) (ap (map typed_of) el ∙ map_take typed_of n (reverse fs))) in
+      let b : map typed_of (reverse fs') ≡ drop n (map typed_of (reverse fs)) = ap (map typed_of) ef ∙ map_drop typed_of n (reverse fs) in
+      rw (a, b, em) (rejoins_step (map typed_of vs) n (f x).1 (map f (drop (suc k) gs)) (map typed_of (reverse fs)) all (first_group (map typed_of vs) (map typed_of (reverse fs)) k x l e h))
+
+  pub rejoins_all : (vs : List Value) (fs : List Typed) (k : ℕ) → length gs ≤ k → Rejoins (map typed_of vs) (map f (drop k gs)) fs all → map typed_of vs ≡ all
+  rejoins_all vs fs k l h = rejoins_end (map typed_of vs) fs all (subst (λ (hs : List G). Rejoins (map typed_of vs) (map f hs) fs all) (none_left gs k l) h)
+
+-- ---- the first values of a list that lies there in reverse
+pub record Front (list rest : List Value) (k n : ℕ) (all : List Value) : Type 0 where
+  pub front : list ++ take k (reverse rest) ≡ take n (reverse all)
+  pub back : drop k (reverse rest) ≡ drop n (reverse all)
+  pub enough : k ≤ length rest
+
+pub front_step : (list rest new : List Value) (x : Value) (k n : ℕ) (all : List Value) → Front list rest (suc k) n all → rest ≡ new ++ x ∷ [] → Front (list ++ x ∷ []) new k n all
+front_step list rest new x k n all h e =
+    let r : reverse rest ≡ x ∷ reverse new = ap reverse e ∙ reverse-append new (x ∷ []) in
+    let l : length rest ≡ suc (length new) = ap length e ∙ length_more new x in
+    let m = h.enough in
+    record {
+      front = append_assoc list (x ∷ []) (take k (reverse new)) ∙ ap (λ (t : List Value). list ++ take (suc k) t) (sym r) ∙ h.front;
+      back = ap (λ (t : List Value). drop (suc k) t) (sym r) ∙ h.back;
+      enough = omega (arith, l, m);
+    }
+
+-- ---- the values that the second optic gives back to the first
+joins_length : (gs : Groups) (fs : List Typed) → length (joins gs fs) ≡ group_count gs
+joins_length no_group fs = refl
+joins_length (group n r gs) fs = ap suc (joins_length gs (drop n fs))
+
+pub outer_fits : (r : Rest) (gs : Groups) (fs : List Typed) (vs : List Value) (n : ℕ) → Fits (both r gs) n → map typed_of vs ≡ joins gs fs → Fits r (length vs)
+outer_fits r gs fs vs n h e = (h.0.0, sym (length_views vs) ∙ ap length e ∙ joins_length gs fs ∙ h.0.1)

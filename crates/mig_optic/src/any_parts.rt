@@ -1,0 +1,172 @@
+ghost use Rattle.std.specs.Prelude.{◌≡◌, ◌+◌, IfOk, length, map};
+ghost use Rattle.std.specs.List.{flat_map, AllByRecursion};
+ghost use Rattle.mig_value.specs.View.{typed_of};
+ghost use Rattle.mig_optic.specs.AnyView.{any_path, group_pair};
+ghost use Rattle.mig_optic.specs.Path.{foci, Takes, crossed, total_of, then_};
+ghost use Rattle.mig_optic.specs.Rest.{rest_for, part_of, join, joins, Fits, groups_of, total, AreFormed};
+
+use crate::any_residue::{AnyGroup, AnyGroups, Held};
+use crate::lists::{only, single, take_front};
+use crate::{AnyOptic, AnyResidue, Counter, Cross, Each, Memory, Optic, Value};
+use std::alloc::Global;
+
+/// Parts a value by any optic.
+#[cycle(part)]
+fn part_any<'a, C: Counter>(
+    optic: &AnyOptic,
+    alloc: Global,
+    value: Value<'a>,
+    steps: &mut C,
+) -> Result<(Vec<Value<'a>>, AnyResidue<'a>), Memory>
+    requires { Takes (any_path optic.now) (typed_of value) }
+    ensures foci { IfOk result (λ x. map typed_of x.0.items ≡ foci (any_path optic.now) (typed_of value.entry)) }
+    ensures rest { IfOk result (λ x. x.1 ≡ rest_for (any_path optic.now) (typed_of value.entry)) }
+    ensures count { IfOk result (λ _. C.counted steps.new ≡ C.counted steps.old + crossed (any_path optic.now) (typed_of value.entry)) }
+{
+    match optic {
+        AnyOptic::Here => Ok((single(alloc, value)?, AnyResidue::new(Held::Whole))),
+        AnyOptic::FieldAt(optic) => {
+            let (foci, rest) = optic.part(alloc, value, steps)?;
+            Ok((foci, AnyResidue::new(Held::Field(rest))))
+        }
+        AnyOptic::MayField(optic) => {
+            let (foci, rest) = optic.part(alloc, value, steps)?;
+            Ok((foci, AnyResidue::new(Held::May(rest))))
+        }
+        AnyOptic::CaseOf(optic) => {
+            let (foci, rest) = optic.part(alloc, value, steps)?;
+            Ok((foci, AnyResidue::new(Held::Case(rest))))
+        }
+        AnyOptic::Each => {
+            let (foci, rest) = Each.part(alloc, value, steps)?;
+            Ok((foci, AnyResidue::new(Held::Each(rest))))
+        }
+        AnyOptic::Side(optic) => {
+            let (foci, rest) = optic.part(alloc, value, steps)?;
+            Ok((foci, AnyResidue::new(Held::Side(rest))))
+        }
+        AnyOptic::Cross => {
+            let (foci, rest) = Cross.part(alloc, value, steps)?;
+            Ok((foci, AnyResidue::new(Held::Cross(rest))))
+        }
+        AnyOptic::Then(first, second) => part_then(first.get(), second.get(), alloc, value, steps),
+    }
+}
+
+/// Parts a value by the second optic after the first.
+#[cycle(part)]
+fn part_then<'a, C: Counter>(
+    first: &AnyOptic,
+    second: &AnyOptic,
+    alloc: Global,
+    value: Value<'a>,
+    steps: &mut C,
+) -> Result<(Vec<Value<'a>>, AnyResidue<'a>), Memory>
+    requires { Takes (then_ (any_path first.now) (any_path second.now)) (typed_of value) }
+    ensures foci { IfOk result (λ x. map typed_of x.0.items ≡ foci (then_ (any_path first.now) (any_path second.now)) (typed_of value.entry)) }
+    ensures rest { IfOk result (λ x. x.1 ≡ rest_for (then_ (any_path first.now) (any_path second.now)) (typed_of value.entry)) }
+    ensures count { IfOk result (λ _. C.counted steps.new ≡ C.counted steps.old + crossed (then_ (any_path first.now) (any_path second.now)) (typed_of value.entry)) }
+{
+    let (values, outer) = part_any(first, alloc, value, steps)?;
+    let (foci, inner) = part_each(second, alloc, values, steps)?;
+    let outer = Box::new(alloc, outer)?;
+    let both = Held::Both(outer, AnyGroups::new(inner));
+    Ok((foci, AnyResidue::new(both)))
+}
+
+/// Parts each value: the foci of all in order, and for each how many it has and its residue.
+#[cycle(part)]
+fn part_each<'a, C: Counter>(
+    optic: &AnyOptic,
+    alloc: Global,
+    values: Vec<Value<'a>>,
+    steps: &mut C,
+) -> Result<(Vec<Value<'a>>, Vec<AnyGroup<'a>>), Memory>
+    requires { AllByRecursion (Takes (any_path optic.now)) (map typed_of values.items) }
+    ensures foci { IfOk result (λ x. map typed_of x.0.items ≡ flat_map (foci (any_path optic.now)) (map typed_of values.entry.items)) }
+    ensures groups { IfOk result (λ x. map group_pair x.1.items ≡ map (part_of (any_path optic.now)) (map typed_of values.entry.items)) }
+    ensures count { IfOk result (λ _. C.counted steps.new ≡ C.counted steps.old + total_of (crossed (any_path optic.now)) (map typed_of values.entry.items)) }
+{
+    let mut foci = Vec::new(alloc);
+    let mut groups = Vec::new(alloc);
+    for value in values {
+        let (mut more, residue) = part_any(optic, alloc, value, steps)?;
+        let count = more.len();
+        foci.append(&mut more)?;
+        groups.push(AnyGroup { count, residue })?;
+    }
+    Ok((foci, groups))
+}
+
+/// Rejoins the foci with the residue of any optic.
+#[cycle(rejoin)]
+fn rejoin_any<'a>(
+    alloc: Global,
+    foci: Vec<Value<'a>>,
+    residue: AnyResidue<'a>,
+) -> Result<Value<'a>, Memory>
+    requires { Fits residue (length foci.items) }
+    ensures { IfOk result (λ w. typed_of w ≡ join residue.entry (map typed_of foci.entry.items)) }
+{
+    match residue.into_held() {
+        Held::Whole => Ok(only(foci)),
+        Held::Field(hole) => Ok(hole.fill(only(foci))),
+        Held::May(rest) => Ok(rest.rejoin(foci)),
+        Held::Case(rest) => Ok(rest.rejoin(foci)),
+        Held::Each(rest) => Each.rejoin(alloc, foci, rest),
+        Held::Side(rest) => Ok(rest.rejoin(foci)),
+        Held::Cross(rest) => Cross.rejoin(alloc, foci, rest),
+        Held::Both(outer, inner) => {
+            let values = rejoin_each(alloc, foci, inner.into_vec())?;
+            rejoin_any(alloc, values, Box::into_inner(outer))
+        }
+    }
+}
+
+/// Rejoins each residue with its foci, which follow one another in the list.
+#[cycle(rejoin)]
+fn rejoin_each<'a>(
+    alloc: Global,
+    foci: Vec<Value<'a>>,
+    groups: Vec<AnyGroup<'a>>,
+) -> Result<Vec<Value<'a>>, Memory>
+    requires formed { AreFormed (groups_of (map group_pair groups.items)) }
+    requires enough { length foci.items ≡ total (groups_of (map group_pair groups.items)) }
+    ensures { IfOk result (λ values. map typed_of values.items ≡ joins (groups_of (map group_pair groups.entry.items)) (map typed_of foci.entry.items)) }
+{
+    let mut reversed = foci;
+    reversed.reverse();
+    let mut values = Vec::new(alloc);
+    for group in groups {
+        let AnyGroup { count, residue } = group;
+        let front = take_front(alloc, &mut reversed, count)?;
+        values.push(rejoin_any(alloc, front, residue)?)?;
+    }
+    Ok(values)
+}
+
+impl<'a> Optic<'a> for AnyOptic {
+    type Residue = AnyResidue<'a>;
+
+    ghost path = { any_path };
+
+    ghost rest = { λ r. r };
+
+    fn part<C: Counter>(
+        &self,
+        alloc: Global,
+        value: Value<'a>,
+        steps: &mut C,
+    ) -> Result<(Vec<Value<'a>>, AnyResidue<'a>), Memory> {
+        part_any(self, alloc, value, steps)
+    }
+
+    fn rejoin(
+        &self,
+        alloc: Global,
+        foci: Vec<Value<'a>>,
+        residue: AnyResidue<'a>,
+    ) -> Result<Value<'a>, Memory> {
+        rejoin_any(alloc, foci, residue)
+    }
+}

@@ -1,0 +1,116 @@
+ghost use Rattle.std.specs.Prelude.{◌≡◌, map};
+ghost use Rattle.mig_optic.specs.AnyView.{held_rest, group_pair};
+
+use crate::{CaseRest, CrossRest, EachRest, Hole, MayRest, SideRest};
+use std::marker::Model;
+
+/// What is left of a value without the foci of an `AnyOptic`. Contracts see the rest that it stands for.
+#[cycle(any_residue)]
+#[derive(Debug, Drop)]
+pub struct AnyResidue<'a> {
+    held: Held<'a>,
+}
+
+/// The residue of each optic.
+#[cycle(any_residue)]
+#[derive(Debug, Drop)]
+pub(crate) enum Held<'a> {
+    Whole,
+    Field(Hole<'a>),
+    May(MayRest<'a>),
+    Case(CaseRest<'a>),
+    Each(EachRest),
+    Side(SideRest<'a>),
+    Cross(CrossRest<'a>),
+    Both(Box<AnyResidue<'a>>, AnyGroups<'a>),
+}
+
+/// What is left of one focus of the first optic, and how many foci the second has there.
+#[cycle(any_residue)]
+#[derive(Debug, Drop)]
+pub(crate) struct AnyGroup<'a> {
+    pub count: usize,
+    pub residue: AnyResidue<'a>,
+}
+
+/// What is left of each focus of the first optic.
+#[cycle(any_residue)]
+#[derive(Debug, Drop)]
+pub(crate) struct AnyGroups<'a> {
+    list: Vec<AnyGroup<'a>>,
+}
+
+impl<'a> Model for AnyResidue<'a> {
+    ghost use Rattle.mig_optic.specs.Rest.{Rest};
+    ghost use Rattle.mig_optic.specs.Code.{rest_size, coded_rest};
+
+    ghost Value = { Rest };
+
+    ghost coded = { coded_rest };
+
+    ghost use Rattle.mig_optic.specs.AnyView.{held_rest};
+
+    ghost view = { λ a. held_rest a.held };
+
+    ghost size = { rest_size };
+
+    ghost use Rattle.std.proofs.Common.{arith};
+    ghost use Rattle.mig_optic.specs.AnyFalls.{deep_rest};
+
+    ghost size_decreases = { λ a h. omega (arith, deep_rest a.held) };
+}
+
+impl<'a> Model for AnyGroups<'a> {
+    ghost use Rattle.std.specs.Prelude.{List, ℕ, map};
+    ghost use Rattle.mig_optic.specs.Rest.{Rest};
+    ghost use Rattle.mig_optic.specs.Code.{list_size, coded_groups};
+
+    ghost Value = { List (ℕ × Rest) };
+
+    ghost coded = { coded_groups };
+
+    ghost use Rattle.mig_optic.specs.AnyView.{group_pair};
+
+    ghost view = { λ a. map group_pair a.list.items };
+
+    ghost size = { list_size };
+
+    ghost use Rattle.std.proofs.Common.{arith};
+    ghost use Rattle.mig_optic.specs.AnyFalls.{most_groups};
+
+    ghost size_decreases = { λ a h. omega (arith, most_groups a.list.items) };
+}
+
+impl<'a> AnyResidue<'a> {
+    /// The residue that holds this.
+    pub(crate) fn new(held: Held<'a>) -> AnyResidue<'a>
+        ensures { result ≡ held_rest held.entry }
+    {
+        AnyResidue { held }
+    }
+
+    /// Gives up what it holds.
+    pub(crate) fn into_held(self) -> Held<'a>
+        ensures { held_rest result ≡ self.entry }
+    {
+        let AnyResidue { held } = self;
+        held
+    }
+}
+
+impl<'a> AnyGroups<'a> {
+    /// These groups.
+    pub(crate) fn new(list: Vec<AnyGroup<'a>>) -> AnyGroups<'a>
+        ensures { result ≡ map group_pair list.entry.items }
+    {
+        AnyGroups { list }
+    }
+
+    /// Gives the groups up.
+    pub(crate) fn into_vec(self) -> Vec<AnyGroup<'a>>
+        ensures { map group_pair result.items ≡ self.entry }
+    {
+        let AnyGroups { list } = self;
+        list
+    }
+}

@@ -1,0 +1,12 @@
+ghost use Rattle.std.specs.Prelude.{ℕ, List};
+ghost use Rattle.mig_model.specs.declared.form.Form.{Form};
+ghost use Rattle.mig_model.specs.Template.{Template};
+ghost use Rattle.mig_value.specs.Fit.{Fit, FitAsRead, IsOfForm, IsAtomOf};
+ghost use Rattle.mig_finder.specs.Law.{PlacesFit};
+
+/// The optic of each place takes every value of the template, and its foci are values of the template of the place: so of values that fit, of those that were read, and of those that have the shape alone.
+pub fn places_fit()
+    ensures fit { (form : Form) (body : List ℕ → Template) → PlacesFit (IsOfForm form) (Fit form body) }
+    ensures read { (form : Form) (body : List ℕ → Template) → PlacesFit (IsAtomOf form) (FitAsRead form body) }
+    ensures shape { PlacesFit (λ v. Unit {0}) (λ n v. Unit {0}) }
+{}

@@ -41,7 +41,7 @@ out_is : (b : Bool) (k j : Kind) → IsTrue (is_some (then_some b k)) → (b ≡
 out_is true k j h is = ap Some (sym (is refl))
 out_is false k j h is = absurd (let no : false ≡ true = h in cc)
 
-value_has_kind : (f : LeafFn) (t : Plain) → IsTrue (is_some (leaf_out f (kind_of t))) → leaf_out f (kind_of t) ≡ Some (kind_of (leaf_value f t))
+pub value_has_kind : (f : LeafFn) (t : Plain) → IsTrue (is_some (leaf_out f (kind_of t))) → leaf_out f (kind_of t) ≡ Some (kind_of (leaf_value f t))
 value_has_kind (constant c) t h = out_is (is_leaf (kind_of t)) (const_kind c) (kind_of (const_tree c)) h (λ _. const_has_kind c)
 value_has_kind (plus n) t h = out_is (is_whole_number (kind_of t)) (kind_of t) _ h (number_has_kind (kind_of t) _)
 value_has_kind (times n) t h = out_is (is_whole_number (kind_of t)) (kind_of t) _ h (number_has_kind (kind_of t) _)

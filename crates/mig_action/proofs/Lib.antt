@@ -1,0 +1,17 @@
+pub mod Edits
+pub mod Stands
+pub mod Settings
+pub mod OneName
+pub mod Same
+pub mod Values
+pub mod Single
+pub mod Orders
+pub mod Several
+pub mod Ops
+pub mod Distinct
+pub mod Scopes
+pub mod Whole
+pub mod Counts
+pub mod AtPoints
+pub mod Inner
+pub mod Laws

@@ -1,0 +1,8 @@
+pub mod Edits
+pub mod SameTemplate
+pub mod FieldFn
+pub mod NewRecord
+pub mod Act
+pub mod Moves
+pub mod Nodes
+pub mod Laws

@@ -1,0 +1,6 @@
+pub mod Places
+pub mod Changes
+pub mod SearchNames
+pub mod Filtered
+pub mod Merging
+pub mod Loops

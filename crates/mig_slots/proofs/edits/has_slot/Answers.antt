@@ -1,0 +1,7 @@
+use Rattle.std.proofs.Common.{◌∙◌}
+use Rattle.mig_value.specs.View.{slot_of}
+use Rattle.mig_slots.proofs.Places.{has_is}
+use Rattle.mig_slots.proofs.edits.has_slot.Goals as goal
+
+pub returns : goal.returns
+returns c = c.is_ok.ensures.value ∙ has_is slot_of c.args.name.now c.args.slots.now c.place.result c.requires c.place.ensures.place

@@ -1,0 +1,3 @@
+pub mod View
+pub mod Fitting
+pub mod Sorted

@@ -1,0 +1,53 @@
+ghost use Rattle.std.specs.Prelude.{◌≡◌, [], IfOk, if◌then◌else◌};
+ghost use Rattle.mig_value.specs.View.{typed_of};
+ghost use Rattle.mig_action.specs.Edits.{has, without, put};
+ghost use Rattle.mig_action.specs.FieldFn as op;
+ghost use Rattle.mig_action.specs.Moves.{move};
+ghost use Rattle.mig_slots.specs.View.{moving_of, IsOrdered};
+
+use crate::edits::{drop_slot, has_slot, put_slot};
+use crate::{Memory, Moving, Name, Slot, Text, Value};
+
+/// Takes the field out, and lets its value go.
+pub fn drop_field<'a>(mut moving: Moving<'a>, x: &Name) -> Moving<'a>
+    requires { IsOrdered (moving_of moving) }
+    ensures { moving_of result ≡ move (op.drop x.now) [] (moving_of moving.entry) }
+{
+    drop_slot(&mut moving.slots, x.bytes());
+    moving
+}
+
+/// Puts the value under a new name, which no unknown slot keeps. The slot borrows the name.
+pub fn add<'a>(mut moving: Moving<'a>, x: &'a Name, value: Value<'a>) -> Result<Moving<'a>, Memory>
+    requires { IsOrdered (moving_of moving) }
+    ensures { let given = moving_of moving.entry in IfOk result (λ m. moving_of m ≡ record { slots = put x.now (typed_of value.entry) given.slots; rest = without x.now given.rest }) }
+{
+    let slot = Slot {
+        name: Text::lent(x.bytes()),
+        value,
+    };
+    put_slot(&mut moving.slots, slot)?;
+    drop_slot(&mut moving.rest, x.bytes());
+    Ok(moving)
+}
+
+/// Puts the value under the name where nothing stands there; otherwise lets it go. The slot borrows the name.
+pub fn fill_absent<'a>(
+    mut moving: Moving<'a>,
+    x: &'a Name,
+    value: Value<'a>,
+) -> Result<Moving<'a>, Memory>
+    requires { IsOrdered (moving_of moving) }
+    ensures { let given = moving_of moving.entry in IfOk result (λ m. moving_of m ≡ record { slots = (if has x.now given.slots then given.slots else put x.now (typed_of value.entry) given.slots); rest = given.rest }) }
+{
+    if has_slot(moving.slots.as_slice(), x.bytes()) {
+        drop(value);
+        return Ok(moving);
+    }
+    let slot = Slot {
+        name: Text::lent(x.bytes()),
+        value,
+    };
+    put_slot(&mut moving.slots, slot)?;
+    Ok(moving)
+}

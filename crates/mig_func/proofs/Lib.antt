@@ -1,0 +1,13 @@
+pub mod CaseTargets
+pub mod Nesting
+pub mod Offers
+pub mod Outcomes
+pub mod Rebuilt
+pub mod Same
+pub mod Scopes
+pub mod Targets
+pub mod Tests
+pub mod Ready
+pub mod Applied
+pub mod Within
+pub mod Answered

@@ -1,0 +1,6 @@
+use Rattle.std.proofs.Common.{◌≡◌, map, take}
+use Rattle.mig_template.specs.View.{field_of}
+use Rattle.mig_func.proofs.copies.copy_fields.Given as goal
+
+abbrev pub invariant-loop-field : goal.invariant-loop-field
+invariant-loop-field l = map field_of l.list.items ≡ map field_of (take l.field-index l.fields)

@@ -1,0 +1,4 @@
+pub mod New
+pub mod Slot
+pub mod View
+pub mod Ready

@@ -1,0 +1,4 @@
+use Rattle.func_tests.proofs.shown.+show.Given as goal
+
+abbrev pub decreases-show : goal.decreases-show
+decreases-show l = l.levels

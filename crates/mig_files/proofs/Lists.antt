@@ -1,13 +1,14 @@
 -- Edits of a list of entries, as edits of a map.
-use Rattle.std.proofs.Common.{◌≡◌, refl, sym, ◌∙◌, ap, subst, ℕ, suc, zero, ◌+◌, ◌<◌, Bool, true, false, ◌&&◌, ◌||◌, cond, List, [], ◌∷◌, ◌++◌, Option, Some, None, Ok, Err, length, get_or, map, set, take, arith}
+use Rattle.std.proofs.Common.{◌≡◌, refl, sym, ◌∙◌, ap, subst, ℕ, suc, zero, ◌+◌, ◌<◌, Bool, true, false, ◌&&◌, ◌||◌, cond, List, [], ◌∷◌, ◌++◌, Option, Some, None, Ok, Err, length, get_or, map, set, take}
 use Rattle.std.specs.Prelude.{IsSome, is_some, bytes_eq}
-use Rattle.std.specs.List.{IsDistinct, AllByRecursion, list_any, filter, insert, slice_get}
+use Rattle.std.specs.List.{IsDistinct, AllByRecursion, list_any, filter, insert}
 use Rattle.std.specs.List.Sorted.{IsStrictlySortedBy}
 use Rattle.std.specs.Ordering.{nat_cmp, eq_by_cmp}
-use Rattle.std.specs.Cmp.{IsEquivalence, tied_then}
+use Rattle.std.specs.Cmp.{IsEquivalence, IsTotalOrder, tied_then}
+use Rattle.std.proofs.lemmas.Cmp.{nat_list_cmp_total, then_total, on_total}
 use Rattle.std.specs.Cmp.Lexicographic.{slice_cmp}
 use Rattle.std.specs.BTreeMap.{is_at}
-use Rattle.std.specs.Map.{lookup, keys_of, values_of, set_value}
+use Rattle.std.specs.Map.{lookup, keys_of, set_value}
 use Rattle.std.proofs.lemmas.Map.{lookup-set_value, keys-set_value, lookup-insert, lookup-none, NonePasses}
 use Rattle.std.proofs.lemmas.Map.Keys.{IsDistinct-from_sorted}
 use Rattle.std.proofs.lemmas.Map.Text.{is_eq-slice_cmp}
@@ -16,11 +17,14 @@ use Rattle.std.proofs.lemmas.List.{map-append, take_more}
 use Rattle.std.proofs.lemmas.List.Elements.{filter-append}
 use Rattle.std_collections.specs.Layout.BTreeMap.{seek}
 use Rattle.std_collections.specs.Layout.Columns.{set_value_at}
-use Rattle.std_collections.proofs.Seek.{found_at, missing_at, sorted_insert}
+use Rattle.std_collections.proofs.Seek.{found_at, sorted_insert}
+use Rattle.mig_model.proofs.Searches.{found_there, none_there, map-insert}
 use Rattle.mig_files.specs.Held.{Key, same_key, assign, Lists}
 use Rattle.mig_files.specs.Entries.{by_key, AreOrdered, names_in}
 use Rattle.mig_files.specs.Numbered.{held_by}
-use Rattle.mig_files.proofs.Places.{by_key_total, below_key}
+
+pub by_key_total : IsTotalOrder by_key
+by_key_total = then_total (on_total (λ (k : Key). k.0) nat_list_cmp_total) (on_total (λ (k : Key). k.1) nat_list_cmp_total)
 
 pub fun_ext : {A B : Type 0} (f g : A → B) → ((x : A) → f x ≡ g x) → f ≡ g
 fun_ext f g same = λ i x. same x i
@@ -83,17 +87,12 @@ ordered_distinct es s =
 
 -- ---- what a place means for the look-ups, and what a store there leaves
 module _ {X : Type 0} (f : X → Key × List ℕ) (k : Key) where
-  value_at : (xs : List X) (i : ℕ) (d : X) → i < length xs → d ≡ get_or xs i d → slice_get (values_of (map f xs)) i ≡ Some (f d).1
-  value_at [] i d l h = absurd (omega arith)
-  value_at (x ∷ xs) zero d l h = ap (λ y. Some (f y).1) (sym h)
-  value_at (x ∷ xs) (suc i) d l h = value_at xs i d (omega arith) h
-
   pub place_found : (xs : List X) (i : ℕ) (d : X) → seek (by_key k) (map f xs) ≡ Ok i → i < length xs → d ≡ get_or xs i d → lookup (same_key k) (map f xs) ≡ Some (f d).1
   place_found xs i d h l is =
-      ap (λ t. lookup t (map f xs)) (sym (same_tests k)) ∙ (found_at (by_key k) (map f xs) i h).value ∙ value_at xs i d l is
+      ap (λ t. lookup t (map f xs)) (sym (same_tests k)) ∙ found_there by_key_total f k xs i d h l is
 
   none_passes : (xs : List X) (i : ℕ) → AreOrdered (map f xs) → seek (by_key k) (map f xs) ≡ Err i → NonePasses (same_key k) (map f xs)
-  none_passes xs i s h = subst (λ t. NonePasses t (map f xs)) (same_tests k) (missing_at (by_key k) {cmp = by_key} (below_key k) (map f xs) i s h)
+  none_passes xs i s h = subst (λ t. NonePasses t (map f xs)) (same_tests k) (none_there by_key_total f k xs i s h)
 
   pub no_place : (xs : List X) (i : ℕ) → AreOrdered (map f xs) → seek (by_key k) (map f xs) ≡ Err i → lookup (same_key k) (map f xs) ≡ None
   no_place xs i s h = lookup-none (same_key k) (map f xs) (none_passes xs i s h)
@@ -116,13 +115,8 @@ module _ {X : Type 0} (f : X → Key × List ℕ) (k : Key) where
   ordered_set b xs i d y h is key bytes s =
       subst (λ ks. IsStrictlySortedBy by_key ks) (sym (ap keys_of (as_set b xs i d y h is key bytes) ∙ keys-set_value (same_key k) (map f xs) b)) s
 
-  map-insert : (xs : List X) (i : ℕ) (y : X) → map f (insert xs i y) ≡ insert (map f xs) i (f y)
-  map-insert xs zero y = refl
-  map-insert [] (suc i) y = refl
-  map-insert (x ∷ xs) (suc i) y = ap (λ l. f x ∷ l) (map-insert xs i y)
-
   as_insert : (b : List ℕ) (xs : List X) (i : ℕ) (y : X) → f y ≡ (k, b) → map f (insert xs i y) ≡ insert (map f xs) i (k, b)
-  as_insert b xs i y is = map-insert xs i y ∙ ap (insert (map f xs) i) is
+  as_insert b xs i y is = map-insert f xs i y ∙ ap (insert (map f xs) i) is
 
   pub held_insert : (b : List ℕ) (xs : List X) (i : ℕ) (y : X) → AreOrdered (map f xs) → seek (by_key k) (map f xs) ≡ Err i → f y ≡ (k, b) → held_by (map f (insert xs i y)) ≡ assign (held_by (map f xs)) k (Some b)
   held_insert b xs i y s h is =

@@ -111,23 +111,13 @@ impl Entry {
         self.folder.as_str().cmp(&folder).then(by_name)
     }
 
-    // The place of a key, or where it would go.
+    // The place of a key, or where it would go. It takes log n comparisons.
     fn place(entries: &[Entry], folder: &str, name: &str) -> Result<usize, usize>
         requires { AreOrdered (map entry_of entries.now) }
         ensures bound { IsSearchInRange result (length entries.now) }
         ensures place { result ≡ seek (by_key (folder.now, name.now)) (map entry_of entries.now) }
     {
-        let mut low = 0;
-        let mut high = entries.len();
-        'halves: while low < high {
-            let middle = low + (high - low) / 2;
-            match entries[middle].order(folder, name) {
-                Ordering::Less => low = middle + 1,
-                Ordering::Equal => return Ok(middle),
-                Ordering::Greater => high = middle,
-            }
-        }
-        Err(low)
+        entries.binary_search_by(|entry| entry.order(folder, name))
     }
 
     // The bytes of a key.

@@ -1,7 +1,7 @@
 ghost use Rattle.std.specs.Prelude.{◌≡◌, ◌∷◌, ◌++◌, [], IfOk, map};
 ghost use Rattle.mig_action.specs.Edits.{without, those, others};
 ghost use Rattle.mig_model.specs.Template.{same_name};
-ghost use Rattle.mig_template.specs.Parts.{Ascends};
+ghost use Rattle.mig_model.specs.Ascends.{Ascends};
 ghost use Rattle.mig_template.specs.View.{template_of, field_of};
 
 use crate::Names;

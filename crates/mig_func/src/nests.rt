@@ -6,7 +6,8 @@ ghost use Rattle.mig_action.specs.NewRecord.{unnested, is_some_name};
 ghost use Rattle.mig_model.specs.declared.rest.Rest as rests;
 ghost use Rattle.mig_model.specs.Template.{rec, fields_of, no_choice};
 ghost use Rattle.mig_template.specs.View.{template_of, field_of};
-ghost use Rattle.mig_template.specs.Parts.{Ascends, record_of};
+ghost use Rattle.mig_model.specs.Ascends.{Ascends};
+ghost use Rattle.mig_template.specs.Parts.{record_of};
 ghost use Rattle.mig_func.specs.New.{IsFault, Offers, Refuses};
 
 use crate::copies::copy_field;

@@ -2,7 +2,8 @@ ghost use Rattle.std.specs.Prelude.{◌≡◌, ◌∷◌, ◌++◌, [], Some, tr
 ghost use Rattle.mig_action.specs.Edits.{without};
 ghost use Rattle.mig_action.specs.FieldFn.{common, in_case};
 ghost use Rattle.mig_model.specs.Template.{same_name};
-ghost use Rattle.mig_template.specs.Parts.{Ascends, IsRecordOf, is_twice_named, has_no_case};
+ghost use Rattle.mig_model.specs.Ascends.{Ascends};
+ghost use Rattle.mig_template.specs.Parts.{IsRecordOf, is_twice_named, has_no_case};
 ghost use Rattle.mig_template.specs.View.{field_of, case_of, given_case, given_choice};
 ghost use Rattle.mig_func.specs.New.{IsFault, HasFields, is_bad, taken_by_choice, taken_by_rest, with_more};
 

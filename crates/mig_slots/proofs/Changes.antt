@@ -15,7 +15,8 @@ use Rattle.mig_value.specs.View.{slot_of}
 use Rattle.mig_value.specs.declared.slots.Slot as code
 use Rattle.mig_action.specs.Edits.{under, changed}
 use Rattle.mig_action.proofs.Edits.{Above, ascends-head, ascends-tail, less_differs}
-use Rattle.mig_slots.proofs.Places.{not_found}
+use Rattle.std.proofs.lemmas.Cmp.{nat_list_cmp_total}
+use Rattle.mig_model.proofs.Searches.{not_found}
 
 module _ (x : List ℕ) where
   value_here : (es : List Slot) (i : ℕ) → i < length es → AboveFirst (by_bytes x) es i → AnswersAt (by_bytes x) es i Equal → under x es ≡ Some (value_at i es)
@@ -56,7 +57,7 @@ module _ (x : List ℕ) where
   -- there is no such name
   pub unchanged : (f : Typed → Typed) (xs ys : List code.Slot) (n : List ℕ) (i : ℕ) → Ascends (map slot_of xs) → ys ≡ xs → n ≡ x → Err i ≡ seek (by_bytes n) (map slot_of ys) → map slot_of xs ≡ changed x f (map slot_of xs)
   unchanged f xs ys n i s same named at =
-      sym (changed-none f (map slot_of xs) (not_found slot_of x xs i s (sym (at ∙ (λ j. seek (by_bytes (named j)) (map slot_of (same j)))))))
+      sym (changed-none f (map slot_of xs) (not_found nat_list_cmp_total slot_of x xs i s (sym (at ∙ (λ j. seek (by_bytes (named j)) (map slot_of (same j)))))))
 
   -- the value was taken out, and the new one put there
   pub changed_by : (f : Typed → Typed) (xs ys : List code.Slot) (n : List ℕ) (i : ℕ) (u v w : Typed) (ts us : List Slot) → Ascends (map slot_of xs) → ys ≡ xs → n ≡ x → Ok i ≡ seek (by_bytes n) (map slot_of ys)

@@ -16,7 +16,7 @@ use Rattle.mig_template.specs.Parts.{is_among}
 use Rattle.std.specs.Prelude.{IsTrue, not, map, ◌↔◌}
 use Rattle.std.specs.Map.{keys_of}
 use Rattle.mig_model.specs.Family.{has_twice}
-use Rattle.mig_template.specs.Parts.{Ascends}
+use Rattle.mig_model.specs.Ascends.{Ascends}
 use Rattle.mig_template.proofs.Sorted.{once_if_ascends, twice_if_not}
 use Rattle.mig_slots.specs.Sorted.{AreSorted, alone}
 

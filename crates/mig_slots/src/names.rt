@@ -1,7 +1,8 @@
 ghost use Rattle.std.specs.Prelude.{◌≡◌, ◌↔◌, length, map, IfOk, IsTrue, IsPermutation};
 ghost use Rattle.std.specs.List.Sorted.{IsSearchInRange, IsBinarySearchResult};
 ghost use Rattle.mig_model.specs.Names.{by_bytes};
-ghost use Rattle.mig_template.specs.Parts.{Ascends, is_among};
+ghost use Rattle.mig_model.specs.Ascends.{Ascends};
+ghost use Rattle.mig_template.specs.Parts.{is_among};
 ghost use Rattle.mig_model.specs.Family.{has_twice};
 ghost use Rattle.mig_slots.specs.Sorted.{AreSorted, alone};
 

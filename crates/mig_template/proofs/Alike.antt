@@ -32,8 +32,3 @@ any_at view p (y ∷ ys) (suc i) x l e h = true_or (p (view y)) (list_any p (map
     true_or : (a b : Bool) → b ≡ true → (a || b) ≡ true
     true_or false b k = k
     true_or true b k = refl
-
-pub same_read : {X : Type 0} (xs : List X) (i : ℕ) (d e : X) → i < length xs → e ≡ get_or xs i e → get_or xs i d ≡ e
-same_read [] i d e l h = absurd (omega arith)
-same_read (x ∷ xs) zero d e l h = sym h
-same_read (x ∷ xs) (suc i) d e l h = same_read xs i d e (omega arith) h

@@ -3,8 +3,6 @@ pub mod CaseLists
 pub mod Found
 pub mod Names
 pub mod OneOrder
-pub mod Places
 pub mod Smaller
 pub mod Sorted
 pub mod Views
-pub mod CasePlaces

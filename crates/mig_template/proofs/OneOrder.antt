@@ -11,7 +11,8 @@ use Rattle.std.proofs.lemmas.Map.Keys.{sorted_head, sorted_tail}
 use Rattle.mig_model.specs.declared.rest.Rest.{Rest}
 use Rattle.mig_model.specs.Names.{by_bytes}
 use Rattle.mig_model.specs.Template.{Field}
-use Rattle.mig_template.specs.Parts.{Case, Cases, RecordParts, Ascends, FieldsOrdered, CasesOrdered, IsChoiceOf, IsRecordOf}
+use Rattle.mig_model.specs.Ascends.{Ascends}
+use Rattle.mig_template.specs.Parts.{Case, Cases, RecordParts, FieldsOrdered, CasesOrdered, IsChoiceOf, IsRecordOf}
 
 not_both : (x y : List ℕ) → by_bytes x y ≡ Less → by_bytes y x ≡ Less → ⊥
 not_both x y a b = let e : Less ≡ Greater = sym a ∙ nat_list_cmp_total.antisymm x y ∙ ap ordering_reverse b in absurd cc

@@ -1,7 +1,8 @@
 -- What a template keeps at every depth: the parts of each record in it are those of a record.
 use Rattle.std.specs.Prelude.{List}
 use Rattle.mig_model.specs.Template.{Template, leaf, any, list, point, rec, sum, Fields, no_field, field, Field, fields_of, field_list, Choice, no_choice, choice, Cases, no_case, case}
-use Rattle.mig_template.specs.Parts.{RecordParts, IsRecord, Ascends, cases_in, choice_of}
+use Rattle.mig_model.specs.Ascends.{Ascends}
+use Rattle.mig_template.specs.Parts.{RecordParts, IsRecord, cases_in, choice_of}
 
 abbrev mutual
   pub IsKept : Template → Type 0

@@ -1,11 +1,11 @@
 -- The parts of a record as lists, and what they keep.
 use Rattle.std.specs.Prelude.{◌≡◌, ℕ, List, [], ◌∷◌, ◌++◌, Bool, false, ◌||◌, Option, Some, None, IsPermutation, length, ◌==◌}
 use Rattle.std.specs.List.{AllByRecursion, list_any}
-use Rattle.std.specs.List.Sorted.{IsStrictlySortedBy}
 use Rattle.std.specs.Map.{keys_of, lookup}
 use Rattle.std.specs.BTreeMap.{is_at}
 use Rattle.mig_model.specs.declared.presence.Presence.{Presence}
 use Rattle.mig_model.specs.declared.rest.Rest.{Rest}
+use Rattle.mig_model.specs.Ascends.{Ascends}
 use Rattle.mig_model.specs.Names.{by_bytes}
 use Rattle.mig_model.specs.Family.{has_twice}
 use Rattle.mig_model.specs.Template.{Template, rec, Field, fields_of, Choice, no_choice, choice, cases_of, case_list, same_name}
@@ -33,10 +33,6 @@ cases_in (choice tag cs) = Some (tag, case_list cs)
 
 abbrev pub record_of : RecordParts → Template
 record_of p = rec (fields_of p.fields) (choice_of p.choice) p.rest
-
--- the names are distinct and ascend by bytes
-abbrev pub Ascends : {A : Type 0} → List (List ℕ × A) → Type 0
-Ascends es = IsStrictlySortedBy by_bytes (keys_of es)
 
 -- the presence and the template of the field of that name
 abbrev pub found_field : List ℕ → List Field → Option (Presence × Template)

@@ -1,17 +1,20 @@
 ghost use Rattle.std.specs.Prelude.{◌≡◌, length, map, option_map};
-ghost use Rattle.std.specs.List.Sorted.{IsSearchInRange, IsBinarySearchResult};
+ghost use Rattle.std.specs.List.Sorted.{IsSearchInRange};
 ghost use Rattle.std.specs.Map.{lookup};
 ghost use Rattle.std.specs.BTreeMap.{is_at};
+ghost use Rattle.std_collections.specs.Layout.BTreeMap.{seek};
 ghost use Rattle.mig_model.specs.Names.{by_bytes};
-ghost use Rattle.mig_template.specs.Parts.{Ascends, found_case};
+ghost use Rattle.mig_model.specs.Ascends.{Ascends};
+ghost use Rattle.mig_template.specs.Parts.{found_case};
 ghost use Rattle.mig_template.specs.View.{case_of};
 
 use crate::{Case, Fields, Record};
 
 /// Where the case of the literal is, or where it would go.
 fn place(cases: &[Case], literal: &[u8]) -> Result<usize, usize>
+    requires { Ascends (map case_of cases.now) }
     ensures bound { IsSearchInRange result (length cases.now) }
-    ensures place { IsBinarySearchResult (λ c. by_bytes c.literal literal.now) cases.now result }
+    ensures place { result ≡ seek (by_bytes literal.now) (map case_of cases.now) }
 {
     cases.binary_search_by(|case| case.literal.bytes().cmp(literal))
 }

@@ -6,7 +6,8 @@ ghost use Rattle.mig_model.specs.Names.{by_bytes};
 ghost use Rattle.mig_model.specs.Family.{has_twice};
 ghost use Rattle.mig_model.specs.Template.{same_name, cases_of};
 ghost use Rattle.mig_template.specs.Kept.{CasesKept};
-ghost use Rattle.mig_template.specs.Parts.{Ascends, IsOrderOf, FieldsOrdered, CasesOrdered, is_among, has_twice_in, is_twice_in};
+ghost use Rattle.mig_model.specs.Ascends.{Ascends};
+ghost use Rattle.mig_template.specs.Parts.{IsOrderOf, FieldsOrdered, CasesOrdered, is_among, has_twice_in, is_twice_in};
 ghost use Rattle.mig_template.specs.Fault.{IsFault};
 ghost use Rattle.mig_template.specs.View.{field_of, case_of, given_case};
 

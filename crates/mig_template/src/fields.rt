@@ -3,12 +3,12 @@ ghost use Rattle.std.specs.List.Sorted.{IsSearchInRange};
 ghost use Rattle.std.specs.Map.{keys_of};
 ghost use Rattle.std_collections.specs.Layout.BTreeMap.{seek};
 ghost use Rattle.mig_model.specs.Names.{by_bytes};
-ghost use Rattle.mig_template.specs.Parts.{Ascends, found_field, is_among};
+ghost use Rattle.mig_model.specs.Ascends.{Ascends};
+ghost use Rattle.mig_template.specs.Parts.{found_field, is_among};
 ghost use Rattle.mig_template.specs.View.{template_of, field_of};
 
 use crate::{Memory, Name, Presence, Template};
 use std::alloc::Global;
-use std::cmp::Ordering;
 use std::marker::Model;
 
 /// A field of a record or of a case: its name, whether it has to be there, and the template of its tree.
@@ -95,23 +95,13 @@ impl Fields {
         list
     }
 
-    /// Where the name is, or where it would go.
+    /// Where the name is, or where it would go. It takes log n comparisons.
     fn place(list: &[Field], name: &[u8]) -> Result<usize, usize>
         requires { Ascends (map field_of list.now) }
         ensures bound { IsSearchInRange result (length list.now) }
         ensures place { result ≡ seek (by_bytes name.now) (map field_of list.now) }
     {
-        let mut low = 0;
-        let mut high = list.len();
-        'halves: while low < high {
-            let middle = low + (high - low) / 2;
-            match list[middle].name.bytes().cmp(name) {
-                Ordering::Less => low = middle + 1,
-                Ordering::Equal => return Ok(middle),
-                Ordering::Greater => high = middle,
-            }
-        }
-        Err(low)
+        list.binary_search_by(|field| field.name.bytes().cmp(name))
     }
 
     /// The field of the name. It takes log n comparisons.

@@ -4,7 +4,8 @@ ghost use Rattle.std.specs.Map.{keys_of};
 ghost use Rattle.mig_model.specs.Names.{by_bytes};
 ghost use Rattle.mig_model.specs.Family.{has_twice};
 ghost use Rattle.mig_model.specs.Template.{fields_of};
-ghost use Rattle.mig_template.specs.Parts.{Ascends, IsOrderOf};
+ghost use Rattle.mig_model.specs.Ascends.{Ascends};
+ghost use Rattle.mig_template.specs.Parts.{IsOrderOf};
 ghost use Rattle.mig_template.specs.Kept.{FieldsKept};
 ghost use Rattle.mig_template.specs.View.{field_of};
 

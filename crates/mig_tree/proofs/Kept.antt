@@ -1,7 +1,10 @@
 -- What a list or a map keeps, its edits keep.
 use Rattle.std.proofs.Common.{◌≡◌, ℕ, zero, suc, ◌<◌, ◌≤◌, ◌^◌, List, [], ◌∷◌, ◌++◌, length, map, sym, subst, arith, slice_set}
+use Rattle.std.proofs.lemmas.Cmp.{nat_list_cmp_total}
 use Rattle.std.proofs.lemmas.List.{length-map, length-set}
+use Rattle.std.proofs.lemmas.Map.Lookups.{exact_bytes}
 use Rattle.std.specs.List.{insert, remove}
+use Rattle.std.specs.List.Sorted.{IsStrictlySortedBy}
 use Rattle.std.specs.Prelude.{Ok, Err}
 use Rattle.std_collections.specs.Layout.BTreeMap.{seek}
 use Rattle.mig_model.specs.Plain as plain
@@ -9,10 +12,10 @@ use Rattle.mig_model.specs.Plain.{Plain, trees_of, pairs_of, items, entries}
 use Rattle.mig_model.specs.Kinds.{items_of_trees, entries_of_pairs}
 use Rattle.mig_model.specs.Keeps.{Keeps, IsShort, ItemsKeep, AllKeep, EntriesKeep, AllPairsKeep}
 use Rattle.mig_model.specs.Names.{by_bytes, IsNamed}
+use Rattle.mig_model.proofs.Searches.{inserted_sorted, replaced_sorted, removed_sorted}
 use Rattle.mig_tree.specs.View.{plain_of, entry_of}
 use Rattle.mig_tree.specs.declared.tree.Tree.{Tree}
 use Rattle.mig_tree.specs.declared.entries.Entry.{Entry}
-use Rattle.mig_tree.proofs.Edits.{inserted_named, replaced_named, removed_named, none_named}
 
 pub list_keeps : (ts : List Plain) → ItemsKeep ts → Keeps (plain.list (trees_of ts))
 list_keeps ts k = (subst IsShort (sym (items_of_trees ts)) k.0, k.1)
@@ -63,18 +66,22 @@ short_mapped xs h = omega (arith, length-map xs entry_of)
 
 pub inserted_keeps : (xs : List Entry) (i : ℕ) (e : Entry) → EntriesKeep (map entry_of xs) → seek (by_bytes e.name) (map entry_of xs) ≡ Err i
     → IsShort e.name → Keeps (plain_of e.tree) → length (insert xs i e) < 2 ^ 64 → EntriesKeep (map entry_of (insert xs i e))
-inserted_keeps xs i e k h name kept few = (inserted_named xs i e k.0 h, few_mapped entry_of (insert xs i e) few, all_inserted xs i e k.2 name kept)
+inserted_keeps xs i e k h name kept few = (inserted_sorted exact_bytes entry_of nat_list_cmp_total xs i e k.0 h, few_mapped entry_of (insert xs i e) few, all_inserted xs i e k.2 name kept)
 
 pub replaced_keeps : (xs : List Entry) (i : ℕ) (e : Entry) → EntriesKeep (map entry_of xs) → seek (by_bytes e.name) (map entry_of xs) ≡ Ok i
     → IsShort e.name → Keeps (plain_of e.tree) → EntriesKeep (map entry_of (slice_set xs i e))
 replaced_keeps xs i e k h name kept =
     let few : length (slice_set xs i e) < 2 ^ 64 = omega (arith, length-set xs i e, short_mapped xs k.1) in
-    (replaced_named xs i e k.0 h, few_mapped entry_of (slice_set xs i e) few, all_replaced xs i e k.2 name kept)
+    (replaced_sorted exact_bytes entry_of xs i e k.0 h, few_mapped entry_of (slice_set xs i e) few, all_replaced xs i e k.2 name kept)
 
 pub removed_keeps : (xs : List Entry) (i : ℕ) → EntriesKeep (map entry_of xs) → EntriesKeep (map entry_of (remove xs i))
 removed_keeps xs i k =
     let few : length (remove xs i) < 2 ^ 64 = omega (arith, fewer xs i, short_mapped xs k.1) in
-    (removed_named xs i k.0, few_mapped entry_of (remove xs i) few, all_removed xs i k.2)
+    (removed_sorted by_bytes entry_of xs i k.0, few_mapped entry_of (remove xs i) few, all_removed xs i k.2)
+
+none_named : IsNamed []
+unfolding IsStrictlySortedBy
+none_named = tt
 
 pub nothing_keeps : EntriesKeep []
 nothing_keeps = (none_named, omega arith, tt)

@@ -1,4 +1,2 @@
-pub mod Places
-pub mod Edits
 pub mod Kept
 pub mod Sorted

@@ -6,7 +6,6 @@ ghost use Rattle.mig_model.specs.Keeps.{EntriesKeep};
 
 use crate::{Memory, Text, Tree};
 use std::alloc::Global;
-use std::cmp::Ordering;
 use std::marker::Model;
 use std::mem;
 
@@ -70,23 +69,13 @@ impl<'a> Entries<'a> {
         self.list.as_slice()
     }
 
-    /// Where the name is, or where it would go.
+    /// Where the name is, or where it would go. It takes log n comparisons.
     fn place(list: &[Entry], name: &[u8]) -> Result<usize, usize>
         requires { IsNamed (map entry_of list.now) }
         ensures bound { IsSearchInRange result (length list.now) }
         ensures place { result ≡ seek (by_bytes name.now) (map entry_of list.now) }
     {
-        let mut low = 0;
-        let mut high = list.len();
-        'halves: while low < high {
-            let middle = low + (high - low) / 2;
-            match list[middle].name.bytes().cmp(name) {
-                Ordering::Less => low = middle + 1,
-                Ordering::Equal => return Ok(middle),
-                Ordering::Greater => high = middle,
-            }
-        }
-        Err(low)
+        list.binary_search_by(|entry| entry.name.bytes().cmp(name))
     }
 
     /// These pairs, whose names ascend and whose trees keep what a tree keeps.

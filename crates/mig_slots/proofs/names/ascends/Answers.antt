@@ -1,8 +1,8 @@
 use Rattle.std.proofs.Common.{◌≡◌, ◌∙◌, ◌<◌, length, refl, sym, arith}
 use Rattle.std.specs.declared.cmp.Ordering.TheVariants.{Less}
 use Rattle.mig_model.specs.Names.{by_bytes}
-use Rattle.mig_template.proofs.Alike.{same_read}
-use Rattle.mig_template.proofs.Sorted.{rises_at, ascends_if_rising, not_other}
+use Rattle.mig_model.proofs.Searches.{same_read}
+use Rattle.mig_model.proofs.Rising.{rises_at, ascends_if_rising, not_other}
 use Rattle.mig_slots.specs.Sorted.{alone}
 use Rattle.mig_slots.proofs.names.ascends.Goals as goal
 

@@ -1,4 +1,4 @@
-use Rattle.mig_template.proofs.Sorted.{Rises}
+use Rattle.mig_model.proofs.Rising.{Rises}
 use Rattle.mig_slots.specs.Sorted.{alone}
 use Rattle.mig_slots.proofs.names.ascends.Given as goal
 

@@ -4,7 +4,7 @@ use Rattle.std.proofs.lemmas.List.{take_more}
 use Rattle.mig_model.specs.Template.{cases_of}
 use Rattle.mig_template.specs.Kept.{FieldListKept, CasesKept}
 use Rattle.mig_template.specs.Parts as parts
-use Rattle.mig_template.specs.Parts.{Ascends}
+use Rattle.mig_model.specs.Ascends.{Ascends}
 use Rattle.mig_template.specs.View.{case_of}
 use Rattle.mig_template.specs.declared.record.Case.{Case}
 use Rattle.mig_template.proofs.cases.keep_each.Goals as goal

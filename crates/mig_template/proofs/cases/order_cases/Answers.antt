@@ -3,7 +3,8 @@ use Rattle.std.specs.Prelude.{IsPermutation, IsTrue}
 use Rattle.std.specs.Map.{keys_of}
 use Rattle.std.proofs.lemmas.List.Sorted.{IsPermutation-map}
 use Rattle.mig_template.specs.Parts as parts
-use Rattle.mig_template.specs.Parts.{Ascends, has_twice_in, is_twice_in}
+use Rattle.mig_model.specs.Ascends.{Ascends}
+use Rattle.mig_template.specs.Parts.{has_twice_in, is_twice_in}
 use Rattle.mig_template.specs.View.{case_of, given_case}
 use Rattle.mig_template.specs.declared.record.Case.{Case}
 use Rattle.mig_template.proofs.CaseLists.{keys_twice, keys_once}

@@ -1,7 +1,8 @@
 use Rattle.std.proofs.Common.{rules, ◌∙◌, List, map, subst, sym}
 use Rattle.std.specs.Prelude.{IsPermutation, IsTrue}
 use Rattle.std.proofs.lemmas.List.Sorted.{IsPermutation-map}
-use Rattle.mig_template.specs.Parts.{Ascends, IsOrderOf}
+use Rattle.mig_model.specs.Ascends.{Ascends}
+use Rattle.mig_template.specs.Parts.{IsOrderOf}
 use Rattle.mig_template.specs.View.{field_of}
 use Rattle.mig_template.specs.declared.fields.Field.{Field}
 use Rattle.mig_template.proofs.Names.{keys_moved}

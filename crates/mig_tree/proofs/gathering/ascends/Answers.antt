@@ -1,8 +1,9 @@
 use Rattle.std.proofs.Common.{◌≡◌, ◌∙◌, ◌<◌, length, refl, sym, ap, arith}
 use Rattle.std.specs.declared.cmp.Ordering.TheVariants.{Less}
 use Rattle.mig_model.specs.Names.{by_bytes}
-use Rattle.mig_tree.proofs.Places.{same_read}
-use Rattle.mig_tree.proofs.Sorted.{rises_at, named_from_rising, not_other}
+use Rattle.mig_model.proofs.Rising.{rises_at, ascends_if_rising, not_other}
+use Rattle.mig_model.proofs.Searches.{same_read}
+use Rattle.mig_tree.specs.View.{entry_of}
 use Rattle.mig_tree.proofs.gathering.ascends.Goals as goal
 
 pub returns-then-ne : goal.returns-then-ne
@@ -17,11 +18,11 @@ returns-then-ne c =
           let less : c.cmp.result ≡ Less =
           c.cmp.ensures
           ∙ (λ t. by_bytes (c.bytes-before.ensures t) ((c.bytes.ensures ∙ ap (λ e. e.name) (same_read xs at other other inside c.index-list-at-in-loop-at.is ∙ sym (same_read xs at one other inside c.index-list-at-in-loop-at.is))) t))
-          ∙ rises_at xs at one named (omega arith) inside in
+          ∙ rises_at entry_of xs at one named (omega arith) inside in
           absurd (not_other c.cmp.result less (sym c.if-ne.true ∙ c.ne.ensures)),
     )
 
 pub returns : goal.returns
 returns c =
     let xs = c.args.list.now in
-    (λ _. named_from_rising xs (λ k d l. c.loop-at.invariant k d (omega arith)), λ _. refl)
+    (λ _. ascends_if_rising entry_of xs (λ k d l. c.loop-at.invariant k d (omega arith)), λ _. refl)

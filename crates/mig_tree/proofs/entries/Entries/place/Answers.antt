@@ -1,40 +1,14 @@
-use Rattle.std.proofs.Common.{◌≡◌, ◌+◌, ◌-◌, ◌<◌, ◌/◌, ap, ◌∙◌, length, arith}
-use Rattle.std.specs.declared.cmp.Ordering.TheVariants.{Less, Equal, Greater}
+use Rattle.std.proofs.Common.{rules}
+use Rattle.std.proofs.lemmas.Cmp.{nat_list_cmp_total}
+use Rattle.std.proofs.lemmas.Fn.{always_returns_same}
 use Rattle.mig_model.specs.Names.{by_bytes}
-use Rattle.mig_tree.proofs.Places.{upper_half, lower_half, found_is, gap_is, same_read}
+use Rattle.mig_model.proofs.Searches.{searched}
+use Rattle.mig_tree.specs.View.{entry_of}
 use Rattle.mig_tree.proofs.entries.Entries.place.Goals as goal
 
-pub halves-preserved-in-Less : goal.halves-preserved-in-Less
-halves-preserved-in-Less c =
-    let xs = c.args.list.now in
-    let name = c.args.name.now in
-    let e = c.index-list-middle.result in
-    let middle = c.halves.low + (c.halves.high - c.halves.low) / 2 in
-    let in_range : middle < length xs = omega arith in
-    let here : by_bytes e.name name ≡ Less = cc in
-    upper_half xs name c.halves.low c.halves.high middle c.requires c.halves.invariant (omega arith) (omega arith)
-    (λ d. ap (λ x. by_bytes x.name name) (same_read xs middle d e in_range c.index-list-middle.is) ∙ here)
-
-pub halves-preserved : goal.halves-preserved
-halves-preserved c =
-    let xs = c.args.list.now in
-    let name = c.args.name.now in
-    let e = c.index-list-middle.result in
-    let middle = c.halves.low + (c.halves.high - c.halves.low) / 2 in
-    let in_range : middle < length xs = omega arith in
-    let here : by_bytes e.name name ≡ Greater = cc in
-    lower_half xs name c.halves.low c.halves.high middle c.requires c.halves.invariant (omega arith) (omega arith)
-    (λ d. ap (λ x. by_bytes x.name name) (same_read xs middle d e in_range c.index-list-middle.is) ∙ here)
-
-pub returns-in-Equal-clause-place : goal.returns-in-Equal-clause-place
-returns-in-Equal-clause-place c =
-    let xs = c.args.list.now in
-    let name = c.args.name.now in
-    let e = c.index-list-middle.result in
-    let middle = c.halves.low + (c.halves.high - c.halves.low) / 2 in
-    let in_range : middle < length xs = omega arith in
-    let here : by_bytes e.name name ≡ Equal = cc in
-    found_is xs name middle c.requires in_range (λ d. ap (λ x. by_bytes x.name name) (same_read xs middle d e in_range c.index-list-middle.is) ∙ here)
-
 pub returns-clause-place : goal.returns-clause-place
-returns-clause-place c = gap_is c.args.list.now c.args.name.now c.halves.low c.halves.high c.halves-test.false c.halves.invariant
+returns-clause-place c =
+    let name = c.args.name.now in
+    let facts = c.binary_search_by.ensures in
+    searched nat_list_cmp_total entry_of name c.args.list.now c.binary_search_by.result c.requires facts.bound
+    (facts.position (λ e. by_bytes e.name name) (always_returns_same _ _ _ (λ a r f' q. (search rules, search rules))))

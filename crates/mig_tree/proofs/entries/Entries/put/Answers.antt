@@ -1,11 +1,12 @@
 use Rattle.std.proofs.Common.{◌≡◌, ◌∙◌, sym, ap, subst, List, length, map, Ok, Err, rules, arith, slice_set}
 use Rattle.std.specs.List.{insert}
+use Rattle.std.proofs.lemmas.Map.Lookups.{exact_bytes}
 use Rattle.std_collections.specs.Layout.BTreeMap.{seek}
 use Rattle.mig_model.specs.Names.{by_bytes, with_pair}
 use Rattle.mig_tree.specs.View.{plain_of, entry_of}
 use Rattle.mig_tree.specs.declared.entries.Entry.{Entry}
+use Rattle.mig_model.proofs.Searches.{inserted, replaced}
 use Rattle.mig_model.specs.Keeps.{EntriesKeep}
-use Rattle.mig_tree.proofs.Edits.{inserted, replaced}
 use Rattle.mig_tree.proofs.Kept.{inserted_keeps, replaced_keeps}
 use Rattle.mig_tree.proofs.entries.Entries.put.Goals as goal
 
@@ -23,7 +24,7 @@ returns-in-Ok-clause-ok c =
     let e : Entry = record { name = c.args.name; tree = c.args.tree } in
     let at : seek (by_bytes c.args.name) (map entry_of xs) ≡ Ok c.in-Ok.at = grind arith in
     let is : c.replace-old.new.dest ≡ e = search rules in
-    ap (λ (x : Entry). map entry_of (slice_set xs c.in-Ok.at x)) is ∙ replaced xs c.in-Ok.at e at ∙ ap (with_pair c.args.name (plain_of c.args.tree)) c.self.view_is
+    ap (λ (x : Entry). map entry_of (slice_set xs c.in-Ok.at x)) is ∙ replaced exact_bytes entry_of xs c.in-Ok.at e at ∙ ap (with_pair c.args.name (plain_of c.args.tree)) c.self.view_is
 
 pub invariant_of-self-in-Err : goal.invariant_of-self-in-Err
 invariant_of-self-in-Err c =
@@ -39,4 +40,4 @@ returns-in_ok-insert-in-Err-clause-ok c =
     let e : Entry = record { name = c.args.name; tree = c.args.tree } in
     let at : seek (by_bytes c.args.name) (map entry_of xs) ≡ Err c.in-Err.at = grind arith in
     let is : c.insert.new.self.items ≡ insert xs c.in-Err.at e = search rules in
-    ap (λ (l : List Entry). map entry_of l) is ∙ inserted xs c.in-Err.at e at ∙ ap (with_pair c.args.name (plain_of c.args.tree)) c.self.view_is
+    ap (λ (l : List Entry). map entry_of l) is ∙ inserted exact_bytes entry_of xs c.in-Err.at e at ∙ ap (with_pair c.args.name (plain_of c.args.tree)) c.self.view_is

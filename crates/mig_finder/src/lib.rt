@@ -9,6 +9,3 @@ mod places;
 pub use fault::FindFault;
 pub use finding::{Found, find};
 pub use law::places_fit;
-
-#[cfg(test)]
-mod tests;

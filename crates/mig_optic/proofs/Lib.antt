@@ -5,5 +5,4 @@ pub mod Again
 pub mod Frames
 pub mod Changes
 pub mod Openings
-pub mod Samples
 pub mod Thens

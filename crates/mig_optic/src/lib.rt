@@ -30,6 +30,3 @@ pub use mig_value::{Counter, Memory, Name, Value};
 pub use optic::Optic;
 pub use side::{Side, SideRest};
 pub use then::{Then, ThenRest};
-
-#[cfg(test)]
-mod tests;

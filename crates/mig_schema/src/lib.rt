@@ -14,6 +14,3 @@ pub use family::Family;
 pub use fault::SchemaFault;
 pub use mig_template::{Template, TemplateBox};
 pub use mig_tree::{Form, Kind, Memory, Name};
-
-#[cfg(test)]
-mod tests;

@@ -17,6 +17,3 @@ pub use mig_model::{Presence, Rest};
 pub use mig_tree::{Form, Kind, Memory, Name};
 pub use record::{Case, Choice, Record};
 pub use template::{Template, TemplateBox};
-
-#[cfg(test)]
-mod tests;

@@ -16,7 +16,6 @@ use mig_tree::{Memory, Steps, Tree};
 use mig_value::Value;
 use std::alloc::Global;
 use std::marker::Brand;
-use std::mem::forget;
 use std::process::Abort;
 use std::sync::ledger::{Blank, Ledger};
 use std::test::Fail;
@@ -96,7 +95,7 @@ fn outcome_of<'a>(
     Ok(text)
 }
 
-/// The same, of a JSON text, by a copy of the function. The copy is never let go: that has a branch for each pair of leaf functions, and takes minutes to prove.
+/// The same, of a JSON text, by a copy of the function.
 fn outcome(
     alloc: Global,
     family: &Family,
@@ -109,9 +108,7 @@ fn outcome(
     let document = mig_json::parse(alloc, text)?;
     let tree = document.tree(alloc)?;
     let copy = function.copy(alloc)?;
-    let outcome = outcome_of(alloc, family, &copy, tree);
-    forget(copy);
-    outcome
+    outcome_of(alloc, family, &copy, tree)
 }
 
 /// The same, of the record of these words, and the function of these words in the scope of the literal.
@@ -124,9 +121,7 @@ fn outcome_in_words(
 ) -> Result<Vec<u8>, Fail> {
     let family = family_of(alloc, template(alloc, record)?)?;
     let function = function(alloc, literal, words)?;
-    let outcome = outcome(alloc, &family, &function, text);
-    forget(function);
-    outcome
+    outcome(alloc, &family, &function, text)
 }
 
 /// Each row: the record, the literal of the scope, the function, a text, and what comes of it.

@@ -4,7 +4,6 @@ ghost use Rattle.mig_model.specs.Family.{is_point, sides_overlap, any_inside, an
 ghost use Rattle.mig_model.specs.Template.{sum, fields_of, cases_of};
 ghost use Rattle.mig_template.specs.View.{template_of};
 
-use crate::kinds::meet;
 use mig_template::{Choice, Fields, Template};
 use mig_tree::Form;
 
@@ -21,7 +20,7 @@ fn do_overlap(left: &Template, right: &Template) -> bool
 {
     let left = left.kinds(Form::Nbt);
     let right = right.kinds(Form::Nbt);
-    meet(&left, &right)
+    left.meets(&right)
 }
 
 /// Whether a sum of the two is one whose sides aren't told apart by their kinds.

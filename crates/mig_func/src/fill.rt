@@ -5,14 +5,13 @@ ghost use Rattle.mig_model.specs.Template.{leaf, list};
 ghost use Rattle.mig_template.specs.View.{template_of};
 ghost use Rattle.mig_func.specs.View.{fill_of};
 
-use crate::kinds::same_kind;
 use mig_leaf::Const;
 use mig_template::{Template, TemplateBox};
 use mig_tree::{Kind, Memory};
 use std::alloc::Global;
 
 /// What a new field gets.
-#[derive(Debug, Drop)]
+#[derive(Debug)]
 pub enum Fill {
     /// The constant.
     Const(Const),
@@ -20,12 +19,22 @@ pub enum Fill {
     EmptyList(Template),
 }
 
+// By hand, as that of `FieldOp` is.
+impl Drop for Fill {
+    fn drop(self) {
+        match self {
+            Fill::Const(constant) => drop(constant),
+            Fill::EmptyList(item) => drop(item),
+        }
+    }
+}
+
 /// Whether it is a leaf of the kind.
 fn is_leaf_of(template: &Template, kind: Kind) -> bool
     ensures { result ≡ same_template (template_of template.now) (leaf kind) }
 {
     match template {
-        Template::Leaf(other) => same_kind(*other, kind),
+        Template::Leaf(other) => *other == kind,
         Template::Any
         | Template::List(_)
         | Template::Point(_)

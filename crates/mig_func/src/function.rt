@@ -19,7 +19,7 @@ pub enum Scope {
 }
 
 /// What is done to the fields. The rules are this project's own.
-#[derive(Debug, Drop)]
+#[derive(Debug)]
 pub enum FieldOp {
     /// What stands under the first name stands under the second.
     Rename(Name, Name),
@@ -49,6 +49,45 @@ pub enum FieldOp {
     Retag(Name, Name),
     /// A case of the literal, with these fields in any order.
     AddCase(Name, Vec<Field>),
+}
+
+// Written by hand, since a derived one is done in place: each caller would prove a branch for each variant of each part.
+impl Drop for FieldOp {
+    fn drop(self) {
+        match self {
+            FieldOp::Rename(one, other) | FieldOp::Retag(one, other) => {
+                drop(one);
+                drop(other);
+            }
+            FieldOp::Drop(name)
+            | FieldOp::Learn(name, _)
+            | FieldOp::Forget(name)
+            | FieldOp::MayBe(name)
+            | FieldOp::Unnest(name)
+            | FieldOp::Wrap(name) => drop(name),
+            FieldOp::Add(name, fill) | FieldOp::Default(name, fill) => {
+                drop(name);
+                drop(fill);
+            }
+            FieldOp::Map(name, leaf) => {
+                drop(name);
+                drop(leaf);
+            }
+            FieldOp::Nest(names, name) => {
+                drop(names);
+                drop(name);
+            }
+            FieldOp::Unify(name, left, right) => {
+                drop(name);
+                drop(left);
+                drop(right);
+            }
+            FieldOp::AddCase(literal, fields) => {
+                drop(literal);
+                drop(fields);
+            }
+        }
+    }
 }
 
 /// A function on the fields of a record.

@@ -7,7 +7,6 @@ mod copies;
 mod fault;
 mod fill;
 mod function;
-mod kinds;
 mod lists;
 mod nests;
 mod ops;

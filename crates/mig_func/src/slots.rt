@@ -9,7 +9,6 @@ ghost use Rattle.mig_func.specs.New.{IsFault};
 ghost use Rattle.mig_func.specs.Slot.{slot_after, common_out};
 ghost use Rattle.mig_func.specs.View.{fill_of, field_op_of};
 
-use crate::kinds::{is_leaf, same_kind};
 use crate::{FieldOp, Fill, FuncFault};
 use mig_leaf::LeafFn;
 use mig_template::{Field, Presence, Template, TemplateBox};
@@ -53,7 +52,7 @@ fn common_out(left: &LeafFn, one: Kind, right: &LeafFn, other: Kind) -> Option<K
 {
     let one = left.fits(one)?;
     let other = right.fits(other)?;
-    same_kind(one, other).then_some(one)
+    (one == other).then_some(one)
 }
 
 /// What two leaf functions make of the leaves of the two sides.
@@ -155,7 +154,7 @@ pub fn can_be_learned(kind: Option<Kind>) -> bool
     ensures { result ≡ can_be_learned kind }
 {
     match kind {
-        Some(kind) => is_leaf(kind),
+        Some(kind) => kind.is_leaf(),
         None => true,
     }
 }

@@ -1,7 +1,6 @@
 ghost use Rattle.std.specs.Prelude.{◌≡◌, IfOk, IsTrue, is_some, Some};
 ghost use Rattle.mig_tree.specs.View.{plain_of};
 ghost use Rattle.mig_model.specs.Kinds.{kind_of};
-ghost use Rattle.mig_model.specs.Template.{is_leaf};
 ghost use Rattle.mig_model.specs.Function.{const_kind, const_tree};
 ghost use Rattle.mig_model.specs.Leaf.{is_whole_number, to_text, shown, read_or, leaf_out, leaf_value};
 ghost use Rattle.mig_leaf.specs.View.{const_of, leaf_fn_of};
@@ -13,7 +12,7 @@ use mig_tree::{Kind, Memory, Name, Text, Tree};
 use std::alloc::Global;
 
 /// A function on leaves. The rules are this project's own.
-#[derive(Debug, Drop)]
+#[derive(Debug)]
 pub enum LeafFn {
     /// The constant, in place of any leaf.
     Const(Const),
@@ -39,10 +38,21 @@ pub enum LeafFn {
     Lower,
 }
 
-fn is_leaf(kind: Kind) -> bool
-    ensures { result ≡ is_leaf kind }
-{
-    !matches!(kind, Kind::List | Kind::Map)
+// Written by hand, since a derived one is done in place: what lets two functions go would have a branch for each pair of variants to prove.
+impl Drop for LeafFn {
+    fn drop(self) {
+        match self {
+            LeafFn::Const(constant) | LeafFn::OfText(constant) => drop(constant),
+            LeafFn::Table(pairs) => drop(pairs),
+            LeafFn::Prefix(text) | LeafFn::Strip(text) => drop(text),
+            LeafFn::Plus(_)
+            | LeafFn::Times(_)
+            | LeafFn::Clamp(_, _)
+            | LeafFn::To(_)
+            | LeafFn::ToText
+            | LeafFn::Lower => {}
+        }
+    }
 }
 
 /// Whether leaves of the kind can be written as texts.
@@ -93,7 +103,7 @@ impl LeafFn {
         let is_number = is_whole_number(kind);
         let is_text = matches!(kind, Kind::Text);
         match self {
-            LeafFn::Const(constant) => is_leaf(kind).then_some(constant.kind()),
+            LeafFn::Const(constant) => kind.is_leaf().then_some(constant.kind()),
             LeafFn::Plus(_) | LeafFn::Times(_) => is_number.then_some(kind),
             LeafFn::Clamp(low, high) => has_range(kind, *low, *high).then_some(kind),
             LeafFn::To(to) => (is_number && is_whole_number(*to)).then_some(*to),

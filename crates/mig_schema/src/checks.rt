@@ -6,7 +6,7 @@ ghost use Rattle.mig_template.specs.KindSet.{is_in};
 ghost use Rattle.mig_template.specs.View.{template_of};
 ghost use Rattle.mig_schema.specs.Check.{fails};
 
-use crate::kinds::{is_one, is_wrong_leaf, meet};
+use crate::kinds::{is_one, is_wrong_leaf};
 use crate::parts::Parts;
 use crate::{Form, Template};
 use mig_template::{Choice, Fields, KindSet};
@@ -51,7 +51,7 @@ fn do_sides_overlap(form: Form, template: &Template) -> bool
         Template::Sum(left, right) => {
             let left = left.get().kinds(form);
             let right = right.get().kinds(form);
-            meet(&left, &right)
+            left.meets(&right)
         }
         _ => false,
     }

@@ -1,5 +1,7 @@
-ghost use Rattle.std.specs.Prelude.{◌≡◌, ◌||◌, false};
+ghost use Rattle.std.specs.Prelude.{◌≡◌, ◌||◌, ◌&&◌, false};
+ghost use Rattle.std.specs.List.{list_any};
 ghost use Rattle.mig_model.specs.declared.kind.Kind as model;
+ghost use Rattle.mig_model.specs.Family.{kinds};
 ghost use Rattle.mig_model.specs.Template.{same_kind, is_of_form};
 ghost use Rattle.mig_template.specs.KindSet.{is_in};
 
@@ -171,5 +173,25 @@ impl KindSet {
             Kind::Bool => self.boolean,
             Kind::Whole => self.whole,
         }
+    }
+
+    /// Whether the kind is in both sets.
+    fn is_in_both(&self, other: &KindSet, kind: Kind) -> bool
+        ensures { result ≡ (is_in self.now kind && is_in other.now kind) }
+    {
+        self.has(kind) && other.has(kind)
+    }
+
+    /// Whether a kind is in both sets.
+    pub fn meets(&self, other: &KindSet) -> bool
+        ensures { result ≡ list_any (λ k. is_in self.now k && is_in other.now k) kinds }
+    {
+        let kinds = Kind::all();
+        for kind in &kinds {
+            if self.is_in_both(other, *kind) {
+                return true;
+            }
+        }
+        false
     }
 }

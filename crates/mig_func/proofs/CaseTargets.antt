@@ -92,9 +92,9 @@ new_case_made p r c b fs k is apart clear good h =
 
 pub new_case_twice : (p : RecordParts) (c : Cases) (b : List ℕ) (fs : List Field) → RecordKept p → p.choice ≡ Some c → has b c.1 ≡ false
     → is_twice_named p.fields (with_more c.0 c.1 (b, fs)) ≡ true → new_by (add_case b fs) common p ≡ None
-new_case_twice p c b fs k is apart bad =
+new_case_twice p c b fs k is apart clash =
     let A = cases_are p c k is in
-    let twice : has_twice (keys_of fs ++ c.0 ∷ keys_of p.fields) ≡ true = sym (more_twice p.fields c.0 c.1 b fs A.ascend apart A.tag A.none) ∙ bad in
+    let twice : has_twice (keys_of fs ++ c.0 ∷ keys_of p.fields) ≡ true = sym (more_twice p.fields c.0 c.1 b fs A.ascend apart A.tag A.none) ∙ clash in
     ap (option_and_then (λ d. option_map (with_cases p) (with_case b fs p.fields d))) is
     ∙ (λ i. option_map (with_cases p) (if_so (not (apart i) && (not (twice i) && are_clear fs)) (c.0, put b (put_all fs []) c.1)))
 

@@ -19,11 +19,11 @@ use Rattle.mig_template.proofs.Views.{field_list_of}
 use Rattle.mig_action.specs.Edits.{under, has, without, put, put_all, those, others}
 use Rattle.mig_action.specs.FieldFn.{nest, unnest}
 use Rattle.mig_action.specs.NewRecord.{Slot, Scoped, can_nest, is_some_name, unnested, unnest_slot, inner_fields}
-use Rattle.mig_func.specs.New.{IsNew, NoneTaken, Offers, Refuses, is_bad}
+use Rattle.mig_func.specs.New.{IsNew, NoneTaken, Offers, Refuses, has_clash}
 use Rattle.mig_laws.proofs.Tests.{same_name_is, split_or, split_and}
 use Rattle.mig_func.proofs.Tests.{or_false, any_either, any_alike, not_all, neither}
 use Rattle.mig_action.proofs.Edits.{under-without, under-others, ascends-without, ascends-others}
-use Rattle.mig_func.proofs.Offers.{new_one, none_taken, taken_not, bad_is, order_all, offered, still_has}
+use Rattle.mig_func.proofs.Offers.{new_one, none_taken, taken_not, clash_is, order_all, offered, still_has}
 
 all_has : (xs : List (List ℕ)) (fs : List Field) (y : List ℕ) → list_all (λ x. has x fs) xs ≡ true → is_among xs y ≡ true → has y fs ≡ true
 all_has [] fs y h k = absurd (true≢false (sym k))
@@ -108,9 +108,9 @@ unnest_offers r y p gs c q fs es s none there once is taken free =
     let free_base : NoneTaken taken base = none_taken taken base (λ n k. taken_not taken fs n free (still_has y n fs s k)) in
     let once_ads : has_twice (keys_of ads) ≡ false = ap has_twice (unnested-keys p gs) ∙ once in
     let test = unnest_test y fs taken in
-    let bad : is_bad taken (base ++ ads) ≡ list_any (λ n. has n base || taken n) (keys_of ads) = bad_is taken base ads sb free_base once_ads in
-    let not_b : is_bad taken (base ++ ads) ≡ not (list_all test (keys_of gs)) =
-    bad
+    let clash : has_clash taken (base ++ ads) ≡ list_any (λ n. has n base || taken n) (keys_of ads) = clash_is taken base ads sb free_base once_ads in
+    let not_b : has_clash taken (base ++ ads) ≡ not (list_all test (keys_of gs)) =
+    clash
     ∙ ap (list_any (λ n. has n base || taken n)) (unnested-keys p gs)
     ∙ any_alike (λ n. has n base || taken n) (λ n. not (test n)) (keys_of gs) (λ n. (λ i. is_some (under-without y fs n s i) || taken n) ∙ by n (same_name n y) refl)
     ∙ sym (not_all test (keys_of gs)) in
@@ -119,7 +119,7 @@ unnest_offers r y p gs c q fs es s none there once is taken free =
     (offered (list_all test (keys_of gs)) (put_all ads base) (base ++ ads) taken not_b
     (λ k. order_all base ads sb once_ads
     (split_or (list_any (λ n. has n base) (keys_of ads)) (list_any taken (keys_of ads))
-    (any_either (λ n. has n base) taken (keys_of ads) ∙ sym bad ∙ not_b ∙ ap not k)).0)))
+    (any_either (λ n. has n base) taken (keys_of ads) ∙ sym clash ∙ not_b ∙ ap not k)).0)))
   where
     there_too : has y fs ≡ true
     there_too = ap is_some there

@@ -21,7 +21,7 @@ use Rattle.mig_template.proofs.Sorted.{once_if_ascends}
 use Rattle.mig_action.specs.Edits.{under, has, without, put, put_all, bring, moved}
 use Rattle.mig_action.specs.FieldFn.{Fill, fill_template, rename, drop, add, learn, forget}
 use Rattle.mig_action.specs.NewRecord.{Slot, is_clear, can_be_learned, learned, at_field}
-use Rattle.mig_func.specs.New.{is_bad, IsNew, NoneTaken, Offers}
+use Rattle.mig_func.specs.New.{has_clash, IsNew, NoneTaken, Offers}
 use Rattle.mig_laws.proofs.Tests.{same_name_is, same_name_itself, split_or, split_and}
 use Rattle.mig_func.proofs.Tests.{true_not, or_false, and_true, neither, any_either, any_alike, any_swap}
 use Rattle.mig_action.proofs.Edits.{under-without, under-filter, ascends-filter, under-put, under-put_all, under-itself, put-permutes, ascends-put, ascends-put_all, ascends-without, same_under, first}
@@ -111,8 +111,8 @@ still_has {A} x n es s h = by (same_name n x) (sym (ap is_some (under-without x 
     by false e = e
 
 -- ---- more fields behind others
-pub bad_is : (taken : List ℕ → Bool) (base ads : List Field) → Ascends base → NoneTaken taken base → has_twice (keys_of ads) ≡ false → is_bad taken (base ++ ads) ≡ list_any (λ n. has n base || taken n) (keys_of ads)
-bad_is taken base ads s free once =
+pub clash_is : (taken : List ℕ → Bool) (base ads : List Field) → Ascends base → NoneTaken taken base → has_twice (keys_of ads) ≡ false → has_clash taken (base ++ ads) ≡ list_any (λ n. has n base || taken n) (keys_of ads)
+clash_is taken base ads s free once =
     let K = keys_of base in
     let L = keys_of ads in
     let twice : has_twice (K ++ L) ≡ list_any (is_among K) L = twice_in_both K L (once_if_ascends base s) once ∙ any_swap L K in
@@ -141,7 +141,7 @@ order_all base ads s once apart = record {
   ascend = ascends-put_all ads base s;
 }
 
-pub offered : (b : Bool) (fs es : List Field) (taken : List ℕ → Bool) → is_bad taken es ≡ not b → (b ≡ true → IsOrderOf es fs) → IsNew (if_so b fs) taken es
+pub offered : (b : Bool) (fs es : List Field) (taken : List ℕ → Bool) → has_clash taken es ≡ not b → (b ≡ true → IsOrderOf es fs) → IsNew (if_so b fs) taken es
 offered true fs es taken h o = record { made = λ k. (fs, refl, o refl); none = λ k. absurd (true≢false (sym k ∙ h)) }
 offered false fs es taken h o = record { made = λ k. absurd (true≢false (sym h ∙ k)); none = λ k. refl }
 
@@ -149,7 +149,7 @@ offered false fs es taken h o = record { made = λ k. absurd (true≢false (sym 
 pub new_one : (base : List Field) (x : List ℕ) (t : Slot) (taken : List ℕ → Bool) → Ascends base → NoneTaken taken base → IsNew (if_so (not (has x base) && not (taken x)) (put x t base)) taken (base ++ (x, t) ∷ [])
 new_one base x t taken s free =
     offered (not (has x base) && not (taken x)) (put x t base) (base ++ (x, t) ∷ []) taken
-    (bad_is taken base ((x, t) ∷ []) s free refl ∙ neither (has x base) (taken x))
+    (clash_is taken base ((x, t) ∷ []) s free refl ∙ neither (has x base) (taken x))
     (λ k. let apart : has x base ≡ false = true_not (has x base) (split_and (not (has x base)) (not (taken x)) k).0 in
     order_all base ((x, t) ∷ []) s refl (or_false (has x base) ∙ apart))
 

@@ -16,12 +16,12 @@ use Rattle.mig_template.proofs.OneOrder.{one_record}
 use Rattle.mig_template.proofs.Sorted.{once_if_ascends}
 use Rattle.mig_action.specs.Edits.{has, without, put}
 use Rattle.mig_action.specs.FieldFn.{common, in_case}
-use Rattle.mig_func.specs.New.{HasFields, is_bad, taken_by_rest, with_more}
+use Rattle.mig_func.specs.New.{HasFields, has_clash, taken_by_rest, with_more}
 use Rattle.mig_laws.proofs.Tests.{split_or}
 use Rattle.mig_func.proofs.Tests.{or_false}
 use Rattle.mig_action.proofs.Edits.{ascends-without}
 use Rattle.mig_func.proofs.Offers.{order_all, gone, put-without}
-use Rattle.mig_func.proofs.Scopes.{case_bad}
+use Rattle.mig_func.proofs.Scopes.{case_clash}
 use Rattle.std.specs.Prelude.{is_some}
 
 -- ---- what is in order is its own order
@@ -119,8 +119,8 @@ case_made p r c l es k is h =
           ∙ (λ i. record p { choice = option_map (λ d. (d.0, put l o.0 d.1)) (sym is i) }),
     )
 
-pub case_twice : (p : RecordParts) (c : Cases) (l : List ℕ) (es : List Field) → RecordKept p → p.choice ≡ Some c → is_twice_named p.fields (with_more c.0 (without l c.1) (l, es)) ≡ is_bad (taken_by_rest p) es
+pub case_twice : (p : RecordParts) (c : Cases) (l : List ℕ) (es : List Field) → RecordKept p → p.choice ≡ Some c → is_twice_named p.fields (with_more c.0 (without l c.1) (l, es)) ≡ has_clash (taken_by_rest p) es
 case_twice p c l es k is =
     let a = cases_are p c k is in
     more_twice p.fields c.0 (without l c.1) l es (ascends-without l c.1 a.ascend) (ap is_some (gone l c.1 a.ascend)) a.tag (any_without (has_twice_in (c.0 ∷ keys_of p.fields)) l c.1 a.none)
-    ∙ case_bad p c es is a.tag
+    ∙ case_clash p c es is a.tag

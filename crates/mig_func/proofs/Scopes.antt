@@ -14,7 +14,7 @@ use Rattle.mig_template.proofs.Names.{twice_in_both, twice_in_more}
 use Rattle.mig_template.proofs.Views.{field_list_of}
 use Rattle.mig_action.specs.Edits.{under}
 use Rattle.mig_action.specs.NewRecord.{is_tag}
-use Rattle.mig_func.specs.New.{is_bad, taken_by_choice, taken_by_rest}
+use Rattle.mig_func.specs.New.{has_clash, taken_by_choice, taken_by_rest}
 use Rattle.mig_laws.proofs.Tests.{split_or}
 use Rattle.mig_action.proofs.Edits.{flips}
 use Rattle.mig_func.proofs.Tests.{or_false, or_true, any_either, any_alike, any_never, any_swap}
@@ -36,9 +36,9 @@ twice_beside ks others once = by (has_twice ks) refl
     by false e = twice_in_both ks others e once ∙ sym (ap (λ b. b || list_any (is_among others) ks) e)
 
 -- ---- a case
-pub case_bad : (p : RecordParts) (c : Cases) (es : List Field) → p.choice ≡ Some c → has_twice (c.0 ∷ keys_of p.fields) ≡ false
-    → has_twice_in (c.0 ∷ keys_of p.fields) (c.0, es) ≡ is_bad (taken_by_rest p) es
-case_bad p c es is once =
+pub case_clash : (p : RecordParts) (c : Cases) (es : List Field) → p.choice ≡ Some c → has_twice (c.0 ∷ keys_of p.fields) ≡ false
+    → has_twice_in (c.0 ∷ keys_of p.fields) (c.0, es) ≡ has_clash (taken_by_rest p) es
+case_clash p c es is once =
     twice_beside (keys_of es) (c.0 ∷ keys_of p.fields) once
     ∙ ap (λ b. has_twice (keys_of es) || b)
     (any_alike (is_among (c.0 ∷ keys_of p.fields)) (taken_by_rest p) (keys_of es)
@@ -67,19 +67,19 @@ names_of_case tag ks names others h once once' =
     no_tag : list_any (λ m. same_name m tag) names ≡ false
     no_tag = (split_or (list_any (λ m. same_name m tag) names) (list_any (is_among others) names) both).0
 
-cases_bad : (tag : List ℕ) (ks others : List (List ℕ)) (cs : List parts.Case) → list_any (has_twice_in (tag ∷ others)) cs ≡ false → has_twice (tag ∷ others) ≡ false → has_twice (tag ∷ ks) ≡ false
+cases_clash : (tag : List ℕ) (ks others : List (List ℕ)) (cs : List parts.Case) → list_any (has_twice_in (tag ∷ others)) cs ≡ false → has_twice (tag ∷ others) ≡ false → has_twice (tag ∷ ks) ≡ false
     → list_any (has_twice_in (tag ∷ ks)) cs ≡ list_any (λ n. is_case_field n (cases_of cs)) ks
-cases_bad tag ks others [] h once once' = sym (any_never ks)
-cases_bad tag ks others (d ∷ cs) h once once' =
+cases_clash tag ks others [] h once once' = sym (any_never ks)
+cases_clash tag ks others (d ∷ cs) h once once' =
     let s = split_or (has_twice_in (tag ∷ others) d) (list_any (has_twice_in (tag ∷ others)) cs) h in
     let here : has_twice (keys_of d.1 ++ tag ∷ ks) ≡ list_any (λ n. is_field n (fields_of d.1)) ks =
     names_of_case tag ks (keys_of d.1) others s.0 once once'
     ∙ any_alike (is_among (keys_of d.1)) (λ n. is_field n (fields_of d.1)) ks (λ n. sym (field_is n d.1)) in
-    (λ i. here i || cases_bad tag ks others cs s.1 once once' i)
+    (λ i. here i || cases_clash tag ks others cs s.1 once once' i)
     ∙ any_either (λ n. is_field n (fields_of d.1)) (λ n. is_case_field n (cases_of cs)) ks
 
-choice_bad : (fs es : List Field) (c : Cases) → is_twice_named fs (Some c) ≡ false → is_twice_named es (Some c) ≡ is_bad (taken_by_choice (Some c)) es
-choice_bad fs es c h = by (has_twice ks) refl (is_among ks c.0) refl
+choice_clash : (fs es : List Field) (c : Cases) → is_twice_named fs (Some c) ≡ false → is_twice_named es (Some c) ≡ has_clash (taken_by_choice (Some c)) es
+choice_clash fs es c h = by (has_twice ks) refl (is_among ks c.0) refl
   where
     ks : List (List ℕ)
     ks = keys_of es
@@ -96,24 +96,24 @@ choice_bad fs es c h = by (has_twice ks) refl (is_among ks c.0) refl
     taken : list_any (taken_by_choice (Some c)) ks ≡ (is_among ks c.0 || list_any (λ n. is_case_field n (cases_of c.1)) ks)
     taken = sym (any_either (λ n. same_name n c.0) (λ n. is_case_field n (cases_of c.1)) ks) ∙ ap (λ b. b || list_any (λ n. is_case_field n (cases_of c.1)) ks) tag_first
 
-    by : (a : Bool) → has_twice ks ≡ a → (b : Bool) → is_among ks c.0 ≡ b → is_twice_named es (Some c) ≡ is_bad (taken_by_choice (Some c)) es
+    by : (a : Bool) → has_twice ks ≡ a → (b : Bool) → is_among ks c.0 ≡ b → is_twice_named es (Some c) ≡ has_clash (taken_by_choice (Some c)) es
     by true e b f = ap (λ x. (is_among ks c.0 || x) || is_twice_in (c.0 ∷ ks) c.1) e ∙ ap (λ x. x || is_twice_in (c.0 ∷ ks) c.1) (or_true (is_among ks c.0)) ∙ sym (ap (λ x. x || list_any (taken_by_choice (Some c)) ks) e)
     by false e true f =
         ap (λ x. (x || has_twice ks) || is_twice_in (c.0 ∷ ks) c.1) f
         ∙ sym ((λ i. e i || taken i) ∙ ap (λ x. x || list_any (λ n. is_case_field n (cases_of c.1)) ks) f)
     by false e false f =
-        (λ i. (f i || e i) || (cases_bad c.0 ks (keys_of fs) c.1 second.0 first.0 (λ j. f j || e j) i || second.1 i))
+        (λ i. (f i || e i) || (cases_clash c.0 ks (keys_of fs) c.1 second.0 first.0 (λ j. f j || e j) i || second.1 i))
         ∙ or_false (list_any (λ n. is_case_field n (cases_of c.1)) ks)
         ∙ sym ((λ i. e i || taken i) ∙ ap (λ x. x || list_any (λ n. is_case_field n (cases_of c.1)) ks) f)
 
 -- other common fields beside the choice of a record
-pub common_bad : (fs es : List Field) (c : Option Cases) → is_twice_named fs c ≡ false → is_twice_named es c ≡ is_bad (taken_by_choice c) es
-common_bad fs es None h = sym ((λ i. has_twice (keys_of es) || any_never (keys_of es) i) ∙ or_false (has_twice (keys_of es)))
-common_bad fs es (Some c) h = choice_bad fs es c h
+pub common_clash : (fs es : List Field) (c : Option Cases) → is_twice_named fs c ≡ false → is_twice_named es c ≡ has_clash (taken_by_choice c) es
+common_clash fs es None h = sym ((λ i. has_twice (keys_of es) || any_never (keys_of es) i) ∙ or_false (has_twice (keys_of es)))
+common_clash fs es (Some c) h = choice_clash fs es c h
 
 -- the common fields of a record aren't taken by its choice, since its names are distinct
 pub common_free : (fs : List Field) (c : Option Cases) → is_twice_named fs c ≡ false → list_any (taken_by_choice c) (keys_of fs) ≡ false
-common_free fs c h = (split_or (has_twice (keys_of fs)) (list_any (taken_by_choice c) (keys_of fs)) (sym (common_bad fs fs c h) ∙ h)).1
+common_free fs c h = (split_or (has_twice (keys_of fs)) (list_any (taken_by_choice c) (keys_of fs)) (sym (common_clash fs fs c h) ∙ h)).1
 
 -- a case that is found has none of its names twice or taken
 pub case_once : (others : List (List ℕ)) (l : List ℕ) (cs : List parts.Case) (fs : List Field) → list_any (has_twice_in others) cs ≡ false → under l cs ≡ Some fs → has_twice (keys_of fs ++ others) ≡ false
@@ -131,4 +131,4 @@ case_free p c l fs is h there =
     let a = split_or (has_twice (c.0 ∷ keys_of p.fields)) (is_twice_in (c.0 ∷ keys_of p.fields) c.1) h in
     let b = split_or (list_any (has_twice_in (c.0 ∷ keys_of p.fields)) c.1) (has_twice (keys_of c.1)) a.1 in
     (split_or (has_twice (keys_of fs)) (list_any (taken_by_rest p) (keys_of fs))
-    (sym (case_bad p c fs is a.0) ∙ case_once (c.0 ∷ keys_of p.fields) l c.1 fs b.0 there)).1
+    (sym (case_clash p c fs is a.0) ∙ case_once (c.0 ∷ keys_of p.fields) l c.1 fs b.0 there)).1

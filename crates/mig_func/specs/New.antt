@@ -19,16 +19,16 @@ IsFault Misfit P = P
 IsFault Memory P = Unit {0}
 
 -- a name is there twice or taken
-abbrev pub is_bad : (List ℕ → Bool) → List Field → Bool
-is_bad taken es = has_twice (keys_of es) || list_any taken (keys_of es)
+abbrev pub has_clash : (List ℕ → Bool) → List Field → Bool
+has_clash taken es = has_twice (keys_of es) || list_any taken (keys_of es)
 
 -- the fields in the order of their names are what was to be made
 abbrev pub Makes : Option (List Field) → List Field → Type 0
 Makes o es = (fs : List Field) × (o ≡ Some fs) × IsOrderOf es fs
 
 pub record IsNew (o : Option (List Field)) (taken : List ℕ → Bool) (es : List Field) : Type 0 where
-  pub made : is_bad taken es ≡ false → Makes o es
-  pub none : is_bad taken es ≡ true → o ≡ None
+  pub made : has_clash taken es ≡ false → Makes o es
+  pub none : has_clash taken es ≡ true → o ≡ None
 
 -- what becomes of fields of which none is taken
 abbrev pub fields_after : FieldOp → Rest → List Field → (List ℕ → Bool) → Option (List Field)

@@ -5,7 +5,7 @@ ghost use Rattle.mig_model.specs.Template.{same_name};
 ghost use Rattle.mig_model.specs.Ascends.{Ascends};
 ghost use Rattle.mig_template.specs.Parts.{IsRecordOf, is_twice_named, has_no_case};
 ghost use Rattle.mig_template.specs.View.{field_of, case_of, given_case, given_choice};
-ghost use Rattle.mig_func.specs.New.{IsFault, HasFields, is_bad, taken_by_choice, taken_by_rest, with_more};
+ghost use Rattle.mig_func.specs.New.{IsFault, HasFields, has_clash, taken_by_choice, taken_by_rest, with_more};
 
 use crate::FuncFault;
 use mig_template::{Case, Choice, Field, Record, RecordFault, Rest};
@@ -93,8 +93,8 @@ pub fn record_of(
 /// The record with other common fields.
 pub fn with_common(alloc: Global, on: &Record, list: Vec<Field>) -> Result<Record, FuncFault>
     ensures made { IfOk result (λ r. HasFields common on.now (map field_of list.items) r) }
-    ensures once { IfOk result (λ r. is_bad (taken_by_choice on.now.choice) (map field_of list.items) ≡ false) }
-    ensures misfit { IfErr result (λ e. IsFault e (is_bad (taken_by_choice on.now.choice) (map field_of list.items) ≡ true)) }
+    ensures once { IfOk result (λ r. has_clash (taken_by_choice on.now.choice) (map field_of list.items) ≡ false) }
+    ensures misfit { IfErr result (λ e. IsFault e (has_clash (taken_by_choice on.now.choice) (map field_of list.items) ≡ true)) }
 {
     on.keeps();
     let choice = copy_choice(alloc, on)?;
@@ -130,8 +130,8 @@ pub fn with_case(
 ) -> Result<Record, FuncFault>
     requires { on.now.choice ≡ Some choice.now }
     ensures made { IfOk result (λ r. HasFields (in_case literal.now) on.now (map field_of list.items) r) }
-    ensures once { IfOk result (λ r. is_bad (taken_by_rest on.now) (map field_of list.items) ≡ false) }
-    ensures misfit { IfErr result (λ e. IsFault e (is_bad (taken_by_rest on.now) (map field_of list.items) ≡ true)) }
+    ensures once { IfOk result (λ r. has_clash (taken_by_rest on.now) (map field_of list.items) ≡ false) }
+    ensures misfit { IfErr result (λ e. IsFault e (has_clash (taken_by_rest on.now) (map field_of list.items) ≡ true)) }
 {
     on.keeps();
     let name = literal.copy(alloc)?;

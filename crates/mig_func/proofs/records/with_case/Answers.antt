@@ -4,7 +4,7 @@ use Rattle.mig_template.specs.Parts.{Case, Cases, IsRecordOf, is_twice_named}
 use Rattle.mig_template.specs.View.{field_of, given_case}
 use Rattle.mig_action.specs.Edits.{without}
 use Rattle.mig_action.specs.FieldFn.{in_case}
-use Rattle.mig_func.specs.New.{HasFields, is_bad, taken_by_rest, with_more}
+use Rattle.mig_func.specs.New.{HasFields, has_clash, taken_by_rest, with_more}
 use Rattle.mig_func.proofs.Outcomes.{ok_map, fault_map}
 use Rattle.mig_func.proofs.Rebuilt.{case_made, case_twice}
 use Rattle.mig_func.proofs.records.with_case.Goals as goal
@@ -33,7 +33,7 @@ returns-clause-once c =
     let same : cs ≡ without l ch.1 = c.in_ok-cases.ensures ∙ ap (λ n. without n ch.1) c.bytes.ensures in
     let given : Option Cases = with_more c.tag.result.now cs (c.in_ok-name.name, es) in
     let is : given ≡ with_more ch.0 (without l ch.1) (l, es) = λ i. with_more (c.tag.ensures i) (same i) (c.in_ok-name.ensures i, es) in
-    ok_map c.with_more.result (λ r. is_twice_named p.fields given ≡ false) (λ r. is_bad (taken_by_rest p) es ≡ false)
+    ok_map c.with_more.result (λ r. is_twice_named p.fields given ≡ false) (λ r. has_clash (taken_by_rest p) es ≡ false)
     (λ r h. sym (case_twice p ch l es c.keeps.ensures c.requires) ∙ ap (is_twice_named p.fields) (sym is) ∙ h) c.with_more.ensures.once
 
 pub returns-clause-misfit : goal.returns-clause-misfit
@@ -46,5 +46,5 @@ returns-clause-misfit c =
     let same : cs ≡ without l ch.1 = c.in_ok-cases.ensures ∙ ap (λ n. without n ch.1) c.bytes.ensures in
     let given : Option Cases = with_more c.tag.result.now cs (c.in_ok-name.name, es) in
     let is : given ≡ with_more ch.0 (without l ch.1) (l, es) = λ i. with_more (c.tag.ensures i) (same i) (c.in_ok-name.ensures i, es) in
-    fault_map c.with_more.result (is_twice_named p.fields given ≡ true) (is_bad (taken_by_rest p) es ≡ true)
+    fault_map c.with_more.result (is_twice_named p.fields given ≡ true) (has_clash (taken_by_rest p) es ≡ true)
     (λ h. sym (case_twice p ch l es c.keeps.ensures c.requires) ∙ ap (is_twice_named p.fields) (sym is) ∙ h) c.with_more.ensures.misfit

@@ -10,18 +10,16 @@ use Rattle.mig_token.specs.Token.{Tok, mark, name, number, text, toks}
 use Rattle.mig_parse.specs.declared.error.ParseError.{ParseError}
 use Rattle.mig_parse.specs.declared.error.ParseError.TheVariants as errors
 use Rattle.mig_parse.specs.TemplateSyntax.{TemplateSyntax}
-use Rattle.mig_parse.specs.RuleSyntax.{RuleSyntax}
 use Rattle.mig_parse.specs.DeclSyntax as decl
-use Rattle.mig_parse.specs.DeclSyntax.{DeclSyntax}
+use Rattle.mig_parse.specs.DeclSyntax.{FixSyntax, DeclSyntax}
 use Rattle.mig_parse.specs.Grammar as g
 use Rattle.mig_parse.specs.Grammar.{Declaration, optional, missing, max_levels}
-use Rattle.mig_parse.specs.Reading.{◌>>=◌, Fails, begins, behind, optional_at, name_at, text_at, number_at, template_at, rule_at, form_at, missing_at, version_at, schema_at, named_at, fix_at, declaration_at}
+use Rattle.mig_parse.specs.Reading.{◌>>=◌, Fails, begins, behind, optional_at, name_at, text_at, number_at, template_at, fix_text_at, form_at, missing_at, version_at, schema_at, named_at, fix_at, declaration_at}
 use Rattle.mig_parse.specs.Law.{HasOneDeclaration}
 use Rattle.mig_parse.proofs.Fronts.{here, bind_some, chosen, some_is, Front, moved, Sound, begins_is, behind_is, name_is, text_is, number_is, optional_is}
 use Rattle.mig_parse.proofs.TemplateRead.{template_read}
 use Rattle.mig_parse.proofs.TemplateSound.{template_sound}
-use Rattle.mig_parse.proofs.RuleRead.{rule_read}
-use Rattle.mig_parse.proofs.RuleSound.{rule_sound}
+use Rattle.mig_parse.proofs.FixLaws.{fix_text_read, fix_text_sound}
 
 -- ---- what is a declaration is read
 
@@ -51,9 +49,9 @@ root_read : (n : List ℕ) → declaration_at (mark M.Root ∷ name n ∷ []) �
 unfolding declaration_at
 root_read n = refl
 
-fix_read : (z : ℤ) (a : List Tok) (r : RuleSyntax) → rule_at max_levels a ≡ here r [] → declaration_at (mark M.Fix ∷ number z ∷ a) ≡ here (decl.fix z (decl.rule r)) []
+fix_read : (z : ℤ) (a : List Tok) (f : FixSyntax) → fix_text_at a ≡ here f [] → declaration_at (mark M.Fix ∷ number z ∷ a) ≡ here (decl.fix z f) []
 unfolding declaration_at fix_at
-fix_read z a r e = rw e refl
+fix_read z a f e = rw e refl
 
 whole : {a : List Tok} {d : DeclSyntax} → Declaration a d → declaration_at a ≡ here d []
 whole g.form_nbt = nbt_read
@@ -62,7 +60,7 @@ whole (g.version s n) = version_read s n
 whole (g.schema z b) = schema_read z b
 whole (g.named n a t p) = named_read n a t (ap (template_at max_levels) (sym (append-nil a)) ∙ template_read p [] refl)
 whole (g.root n) = root_read n
-whole (g.fix z a _ (g.a_rule _ r p)) = fix_read z a r (ap (rule_at max_levels) (sym (append-nil a)) ∙ rule_read p [])
+whole (g.fix z a f p) = fix_read z a f (ap fix_text_at (sym (append-nil a)) ∙ fix_text_read p [] refl)
 
 -- ---- what is read is a declaration
 
@@ -134,11 +132,11 @@ fix_sound : (ts : List Tok) (d : DeclSyntax) (rest : List Tok) → fix_at ts ≡
 unfolding fix_at
 fix_sound ts d rest e =
     let z = bind_some (number_at ts) _ (d, rest) e in
-    let c = bind_some (rule_at max_levels z.0.1) _ (d, rest) z.2 in
-    let s = rule_sound max_levels z.0.1 c.0.0 c.0.1 c.1 in
+    let c = bind_some (fix_text_at z.0.1) _ (d, rest) z.2 in
+    let s = fix_text_sound z.0.1 c.0.0 c.0.1 c.1 in
     let all : mark M.Fix ∷ ts ≡ mark M.Fix ∷ number z.0.0 ∷ (s.a ++ c.0.1) =
     ap (λ (l : List Tok). mark M.Fix ∷ l) (number_is ts z.0.0 z.0.1 z.1 ∙ ap (λ (l : List Tok). number z.0.0 ∷ l) s.is) in
-    moved (λ x a. Declaration a x) (decl.fix z.0.0 (decl.rule c.0.0)) d (mark M.Fix ∷ number z.0.0 ∷ s.a) (mark M.Fix ∷ ts) c.0.1 rest all (g.fix z.0.0 s.a (decl.rule c.0.0) (g.a_rule s.a c.0.0 s.good)) c.2
+    moved (λ x a. Declaration a x) (decl.fix z.0.0 c.0.0) d (mark M.Fix ∷ number z.0.0 ∷ s.a) (mark M.Fix ∷ ts) c.0.1 rest all (g.fix z.0.0 s.a c.0.0 s.good) c.2
 
 at_mark : (m : Mark) (d : DeclSyntax) (ts rest : List Tok) → begins m ts ≡ true → Behind m d (drop 1 ts) rest → Front (λ a. Declaration a d) ts rest
 at_mark m d ts rest h f = record { a = f.a; is = begins_is m ts h ∙ f.is; good = f.good }

@@ -8,7 +8,7 @@ use Rattle.mig_token.specs.declared.mark.Mark.{Mark}
 use Rattle.mig_token.specs.declared.mark.Mark.TheVariants as M
 use Rattle.mig_token.specs.Token.{Tok, mark, name, number, text}
 use Rattle.mig_parse.specs.Grammar.{kind_word, optional}
-use Rattle.mig_parse.specs.Reading.{◌>>=◌, if_some, Read, Reader, number_of, begins, behind, optional_at, name_at, text_at, number_at, first_kind}
+use Rattle.mig_parse.specs.Reading.{◌>>=◌, if_some, Read, Reader, number_of, begins, behind, optional_at, name_at, text_at, number_at, first_kind, kind_at, kind_or_any_at, word, last_word}
 
 abbrev pub here : {A : Type 0} → A → List Tok → Read A
 here x rest = Some (x, rest)
@@ -150,3 +150,46 @@ optional_by m false ts h =
 
 pub optional_is : (m : Mark) (ts : List Tok) → ts ≡ optional m (optional_at m ts).0 ++ (optional_at m ts).1
 optional_is m ts = optional_by m (begins m ts) ts refl
+
+pub word_sound : {A : Type 0} (m : Mark) (R S : Reader A) (F : List Tok → A → Type 0) → Sound R (λ a x. F (mark m ∷ a) x) → Sound S F → Sound (word m R S) F
+word_sound m R S F r s ts x rest e = elim (chosen (begins m ts) _ _ (here x rest) e) [
+  | inl p ↦
+      let f = r (drop 1 ts) x rest p.1 in
+      record { a = mark m ∷ f.a; is = begins_is m ts p.0 ∙ ap (λ (l : List Tok). mark m ∷ l) f.is; good = f.good }
+  | inr p ↦ s ts x rest p.1
+]
+
+pub last_word_sound : {A : Type 0} (m : Mark) (R : Reader A) (F : List Tok → A → Type 0) → Sound R (λ a x. F (mark m ∷ a) x) → Sound (last_word m R) F
+last_word_sound m R F r ts x rest e =
+    let b = bind_some (behind m ts) R (x, rest) e in
+    let f = r b.0 x rest b.2 in
+    record { a = mark m ∷ f.a; is = behind_is m ts b.0 b.1 ∙ ap (λ (l : List Tok). mark m ∷ l) f.is; good = f.good }
+
+-- nothing is read
+pub done_sound : {A : Type 0} (F : List Tok → A → Type 0) (y : A) → F [] y → Sound (λ us. Some (y, us)) F
+done_sound F y p ts x rest e = moved (λ x a. F a x) y x [] ts ts rest refl p e
+
+-- a kind word
+abbrev pub IsKind : List Tok → Kind → Type 0
+IsKind a k = (m : Mark) × (kind_word m ≡ Some k) × (a ≡ mark m ∷ [])
+
+pub kind_sound : Sound kind_at IsKind
+kind_sound ts k rest e =
+    let b = bind_some (first_kind ts) _ (k, rest) e in
+    let w = kind_is ts b.0 b.1 in
+    moved (λ x a. IsKind a x) b.0 k (mark w.0 ∷ []) ts (drop 1 ts) rest w.2 (w.0, w.1, refl) b.2
+
+-- a kind word, or `any`
+abbrev pub IsKindOrAny : List Tok → Option Kind → Type 0
+IsKindOrAny a (Some k) = IsKind a k
+IsKindOrAny a None = a ≡ mark M.Any ∷ []
+
+pub kind_or_any_sound : Sound kind_or_any_at IsKindOrAny
+kind_or_any_sound ts k rest e = elim (one_of (first_kind ts) _ _ (here k rest) e) [
+  | inl p ↦
+      let w = kind_is ts p.0 p.1 in
+      moved (λ x a. IsKindOrAny a x) (Some p.0) k (mark w.0 ∷ []) ts (drop 1 ts) rest w.2 (w.0, w.1, refl) p.2
+  | inr p ↦
+      let b = bind_some (behind M.Any ts) _ (k, rest) p in
+      moved (λ x a. IsKindOrAny a x) None k (mark M.Any ∷ []) ts b.0 rest (behind_is M.Any ts b.0 b.1) refl b.2
+]

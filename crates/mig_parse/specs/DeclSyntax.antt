@@ -2,9 +2,22 @@
 use Rattle.std.specs.Prelude.{ℕ, ℤ, List, Bool, Option}
 use Rattle.mig_model.specs.declared.form.Form.{Form}
 use Rattle.mig_parse.specs.TemplateSyntax.{TemplateSyntax}
-use Rattle.mig_parse.specs.RuleSyntax.{RuleSyntax}
+use Rattle.mig_parse.specs.RuleSyntax.{LeafSyntax, RuleSyntax}
+
+-- a step of a path into a tree
+pub data StepSyntax : Type 0 where
+  -- to the field of this name
+  field : List ℕ → StepSyntax
+  each : StepSyntax
+  left : StepSyntax
+  right : StepSyntax
+  -- to the case of this literal
+  case : List ℕ → StepSyntax
 
 pub data FixSyntax : Type 0 where
+  new_type : List ℕ → TemplateSyntax → FixSyntax
+  drop_type : List ℕ → FixSyntax
+  deep : List StepSyntax → LeafSyntax → FixSyntax
   rule : RuleSyntax → FixSyntax
 
 pub data DeclSyntax : Type 0 where

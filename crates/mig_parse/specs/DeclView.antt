@@ -1,14 +1,27 @@
 -- The syntax that a declaration has, wherever its boxes and lists lie in memory.
+use Rattle.std.specs.Prelude.{map}
 use Rattle.mig_parse.specs.DeclSyntax as syntax
-use Rattle.mig_parse.specs.DeclSyntax.{FixSyntax, DeclSyntax}
+use Rattle.mig_parse.specs.DeclSyntax.{StepSyntax, FixSyntax, DeclSyntax}
 use Rattle.mig_parse.specs.TemplateView.{template_of}
-use Rattle.mig_parse.specs.RuleView.{rule_of}
+use Rattle.mig_parse.specs.RuleView.{leaf_of, rule_of}
+use Rattle.mig_parse.specs.declared.decl.StepText.{StepText}
+use Rattle.mig_parse.specs.declared.decl.StepText.TheVariants as S
 use Rattle.mig_parse.specs.declared.decl.FixText.{FixText}
 use Rattle.mig_parse.specs.declared.decl.FixText.TheVariants as F
 use Rattle.mig_parse.specs.declared.decl.Decl.{Decl}
 use Rattle.mig_parse.specs.declared.decl.Decl.TheVariants as D
 
+abbrev pub step_of : StepText → StepSyntax
+step_of (S.Named x) = syntax.field x
+step_of S.Each = syntax.each
+step_of S.Left = syntax.left
+step_of S.Right = syntax.right
+step_of (S.Case x) = syntax.case x
+
 abbrev pub fix_of : FixText → FixSyntax
+fix_of (F.NewType n t) = syntax.new_type n (template_of t)
+fix_of (F.DropType n) = syntax.drop_type n
+fix_of (F.Deep ss f) = syntax.deep (map step_of ss.items) (leaf_of f)
 fix_of (F.Rule r) = syntax.rule (rule_of r)
 
 abbrev pub decl_of : Decl → DeclSyntax

@@ -10,11 +10,11 @@ use Rattle.mig_token.specs.Token.{Tok, mark, name, number, text}
 use Rattle.mig_parse.specs.declared.error.ParseError.{ParseError}
 use Rattle.mig_parse.specs.declared.error.ParseError.TheVariants as errors
 use Rattle.mig_parse.specs.TemplateSyntax as template
-use Rattle.mig_parse.specs.TemplateSyntax.{TemplateSyntax, FieldSyntax, fields_of}
+use Rattle.mig_parse.specs.TemplateSyntax.{TemplateSyntax, FieldSyntax, CaseSyntax, CasesOfTag, fields_of, choice_of}
 use Rattle.mig_parse.specs.RuleSyntax as rule
-use Rattle.mig_parse.specs.RuleSyntax.{ConstSyntax, FillSyntax, FunctionSyntax, RuleSyntax, rules_of}
+use Rattle.mig_parse.specs.RuleSyntax.{ConstSyntax, FillSyntax, LeafSyntax, FunctionSyntax, RuleSyntax, rules_of}
 use Rattle.mig_parse.specs.DeclSyntax as decl
-use Rattle.mig_parse.specs.DeclSyntax.{FixSyntax, DeclSyntax}
+use Rattle.mig_parse.specs.DeclSyntax.{StepSyntax, FixSyntax, DeclSyntax}
 use Rattle.mig_parse.specs.Grammar.{kind_word, max_levels}
 
 infixl 10 ◌>>=◌
@@ -155,6 +155,34 @@ abbrev pub first_kind : List Tok → Option Kind
 first_kind (mark m ∷ ts) = kind_word m
 first_kind _ = None
 
+abbrev pub kind_at : Reader Kind
+kind_at ts = first_kind ts >>= λ k. Some (k, drop 1 ts)
+
+-- a kind, or none where `any` comes
+abbrev pub kind_or_any_at : Reader (Option Kind)
+kind_or_any_at ts = if_some (first_kind ts) (λ k. Some (Some k, drop 1 ts)) (behind M.Any ts >>= λ rest. Some (None, rest))
+
+-- where the first token is this mark, what the first reader reads behind it, else what the second reads
+abbrev pub word : {A : Type 0} → Mark → Reader A → Reader A → Reader A
+word m R S ts = if begins m ts then R (drop 1 ts) else S ts
+
+-- what the reader reads behind this mark, which has to come
+abbrev pub last_word : {A : Type 0} → Mark → Reader A → Reader A
+last_word m R ts = behind m ts >>= R
+
+-- one or more, with commas between them; n bounds them
+unfoldable pub listed_at : {A : Type 0} → Reader A → ℕ → Reader (List A)
+listed_at R zero ts = None
+listed_at R (suc n) ts = do
+  x ← R ts
+  if begins M.Comma x.1 then (do
+    xs ← listed_at R n (drop 1 x.1)
+    Some (x.0 ∷ xs.0, xs.1)) else Some (x.0 ∷ [], x.1)
+
+-- what was read before, and what is still read
+abbrev pub after_items : {A : Type 0} → List A → Read (List A) → Read (List A)
+after_items front read = read >>= λ x. Some (front ++ x.0, x.1)
+
 -- templates, where T and P read templates and parts one level down
 unfoldable pub field_at : Reader TemplateSyntax → Reader FieldSyntax
 field_at T ts = do
@@ -163,23 +191,66 @@ field_at T ts = do
   t ← T rest
   Some ((n.0, ((optional_at M.Question n.1).0, t.0)), t.1)
 
+-- fields in `{ }`
+unfoldable pub braced_at : Reader TemplateSyntax → Reader (List FieldSyntax)
+braced_at T ts = do
+  start ← behind M.CurlyOpen ts
+  if begins M.CurlyClose start then Some ([], drop 1 start) else (do
+    fs ← listed_at (field_at T) (length start) start
+    rest ← behind M.CurlyClose fs.1
+    Some (fs.0, rest))
+
+unfoldable pub case_at : Reader TemplateSyntax → Reader CaseSyntax
+case_at T ts = do
+  n ← text_at ts
+  fs ← braced_at T n.1
+  Some ((n.0, fs.0), fs.1)
+
+-- behind `choice`
+unfoldable pub choice_at : Reader TemplateSyntax → Reader CasesOfTag
+choice_at T ts = do
+  n ← text_at ts
+  start ← behind M.CurlyOpen n.1
+  cs ← listed_at (case_at T) (length start) start
+  rest ← behind M.CurlyClose cs.1
+  Some ((n.0, cs.0), rest)
+
+-- whether a comma comes, behind which `..` has to stand
+unfoldable pub comma_dots_at : Reader Bool
+comma_dots_at ts = if begins M.Comma ts then (do
+  rest ← behind M.Dots (drop 1 ts)
+  Some (true, rest)) else Some (false, ts)
+
+unfoldable pub last_choice_at : Reader TemplateSyntax → Reader (CasesOfTag × Bool)
+last_choice_at T ts = do
+  c ← choice_at T ts
+  dots ← comma_dots_at c.1
+  Some ((c.0, dots.0), dots.1)
+
+abbrev pub MembersSyntax : Type 0
+MembersSyntax = List FieldSyntax × Option CasesOfTag × Bool
+
 -- n bounds the members
-unfoldable pub members_at : Reader TemplateSyntax → ℕ → Reader (List FieldSyntax × Bool)
+unfoldable pub members_at : Reader TemplateSyntax → ℕ → Reader MembersSyntax
 members_at T zero ts = None
 members_at T (suc n) ts =
-    if begins M.Dots ts then Some (([], true), drop 1 ts) else (do
+    if begins M.Dots ts then Some (([], None, true), drop 1 ts)
+    else (if begins M.Choice ts then (do
+      c ← last_choice_at T (drop 1 ts)
+      Some (([], Some c.0.0, c.0.1), c.1))
+    else (do
       f ← field_at T ts
       if begins M.Comma f.1 then (do
         more ← members_at T n (drop 1 f.1)
-        Some ((f.0 ∷ more.0.0, more.0.1), more.1)) else Some ((f.0 ∷ [], false), f.1))
+        Some ((f.0 ∷ more.0.0, more.0.1, more.0.2), more.1)) else Some ((f.0 ∷ [], None, false), f.1)))
 
 -- behind `{`
 unfoldable pub record_at : Reader TemplateSyntax → Reader TemplateSyntax
 record_at T ts =
-    if begins M.CurlyClose ts then Some (template.record_of (fields_of []) false, drop 1 ts) else (do
+    if begins M.CurlyClose ts then Some (template.record_of (fields_of []) (choice_of None) false, drop 1 ts) else (do
       m ← members_at T (length ts) ts
       rest ← behind M.CurlyClose m.1
-      Some (template.record_of (fields_of m.0.0) m.0.1, rest))
+      Some (template.record_of (fields_of m.0.0) (choice_of m.0.1) m.0.2, rest))
 
 -- a part that no kind word begins
 unfoldable pub compound_at : (P T : Reader TemplateSyntax) → Reader TemplateSyntax
@@ -216,8 +287,8 @@ unfoldable mutual
   template_at (suc d) ts = part_with (part_at d) (template_at d) ts >>= or_with (template_at d)
 
 -- the members that were read before, and those that are still read
-abbrev pub after_fields : List FieldSyntax → Read (List FieldSyntax × Bool) → Read (List FieldSyntax × Bool)
-after_fields front read = read >>= λ x. Some ((front ++ x.0.0, x.0.1), x.1)
+abbrev pub after_fields : List FieldSyntax → Read MembersSyntax → Read MembersSyntax
+after_fields front read = read >>= λ x. Some ((front ++ x.0.0, x.0.1, x.0.2), x.1)
 
 -- constants, behind the kind word
 abbrev pub whole_number_at : Kind → Reader ConstSyntax
@@ -264,6 +335,70 @@ const_of_kind K.Map ts = None
 unfoldable pub const_at : Reader ConstSyntax
 const_at ts = first_kind ts >>= λ k. const_of_kind k (drop 1 ts)
 
+-- leaf functions, behind their first word
+abbrev pub pair_at : Reader (List ℕ × List ℕ)
+pair_at ts = do
+  x ← text_at ts
+  rest ← behind M.To x.1
+  y ← text_at rest
+  Some ((x.0, y.0), y.1)
+
+abbrev pub constant_at : Reader LeafSyntax
+constant_at ts = do
+  c ← const_at ts
+  Some (rule.constant c.0, c.1)
+
+abbrev pub plus_at : Reader LeafSyntax
+plus_at ts = do
+  z ← number_at ts
+  Some (rule.plus z.0, z.1)
+
+abbrev pub times_at : Reader LeafSyntax
+times_at ts = do
+  z ← number_at ts
+  Some (rule.times z.0, z.1)
+
+unfoldable pub clamp_at : Reader LeafSyntax
+clamp_at ts = do
+  y ← number_at ts
+  z ← number_at y.1
+  Some (rule.clamp y.0 z.0, z.1)
+
+abbrev pub to_kind_at : Reader LeafSyntax
+to_kind_at ts = do
+  k ← kind_at ts
+  Some (rule.to_kind k.0, k.1)
+
+abbrev pub of_text_at : Reader LeafSyntax
+of_text_at ts = do
+  c ← const_at ts
+  Some (rule.of_text c.0, c.1)
+
+unfoldable pub table_at : Reader LeafSyntax
+table_at ts = do
+  start ← behind M.Open ts
+  ps ← listed_at pair_at (length start) start
+  rest ← behind M.Close ps.1
+  Some (rule.table ps.0, rest)
+
+abbrev pub prefix_at : Reader LeafSyntax
+prefix_at ts = do
+  s ← text_at ts
+  Some (rule.prefix s.0, s.1)
+
+abbrev pub strip_at : Reader LeafSyntax
+strip_at ts = do
+  s ← text_at ts
+  Some (rule.strip s.0, s.1)
+
+unfoldable pub text_leaf_at : Reader LeafSyntax
+text_leaf_at ts =
+    word M.ToText (λ us. Some (rule.to_text, us)) (word M.OfText of_text_at (word M.Table table_at (word M.Prefix prefix_at (word M.Strip strip_at (last_word M.Lower (λ us. Some (rule.lower, us))))))) ts
+
+unfoldable pub leaf_at : Reader LeafSyntax
+leaf_at ts =
+    word M.Const constant_at (word M.Plus plus_at (word M.Times times_at (word M.Clamp clamp_at (word M.To to_kind_at text_leaf_at)))) ts
+
 unfoldable pub fill_at : Reader FillSyntax
 fill_at ts =
     if begins M.List ts then (do
@@ -286,23 +421,126 @@ add_at ts = do
   f ← fill_at rest
   Some (rule.add x.0 f.0, f.1)
 
+unfoldable pub learn_at : Reader FunctionSyntax
+learn_at ts = do
+  x ← text_at ts
+  k ← kind_or_any_at x.1
+  Some (rule.learn x.0 k.0, k.1)
+
+unfoldable pub default_at : Reader FunctionSyntax
+default_at ts = do
+  x ← text_at ts
+  rest ← behind M.Equals x.1
+  f ← fill_at rest
+  Some (rule.default x.0 f.0, f.1)
+
+unfoldable pub map_at : Reader FunctionSyntax
+map_at ts = do
+  x ← text_at ts
+  f ← leaf_at x.1
+  Some (rule.map x.0 f.0, f.1)
+
+unfoldable pub nest_at : Reader FunctionSyntax
+nest_at ts = do
+  start ← behind M.Open ts
+  xs ← listed_at text_at (length start) start
+  rest ← behind M.Close xs.1
+  y ← text_at rest
+  Some (rule.nest xs.0 y.0, y.1)
+
+unfoldable pub unify_at : Reader FunctionSyntax
+unify_at ts = do
+  x ← text_at ts
+  f ← leaf_at x.1
+  rest ← behind M.Or f.1
+  g ← leaf_at rest
+  Some (rule.unify x.0 f.0 g.0, g.1)
+
+unfoldable pub retag_at : Reader FunctionSyntax
+retag_at ts = do
+  x ← text_at ts
+  y ← text_at x.1
+  Some (rule.retag x.0 y.0, y.1)
+
+unfoldable pub add_case_at : Reader FunctionSyntax
+add_case_at ts = do
+  x ← text_at ts
+  fs ← braced_at (template_at max_levels) x.1
+  Some (rule.add_case x.0 fs.0, fs.1)
+
+-- a function of one name
+abbrev pub one_name_at : (List ℕ → FunctionSyntax) → Reader FunctionSyntax
+one_name_at make ts = do
+  x ← text_at ts
+  Some (make x.0, x.1)
+
+unfoldable pub shape_function_at : Reader FunctionSyntax
+shape_function_at ts = word M.Wrap (one_name_at rule.wrap) (word M.Unify unify_at (word M.Retag retag_at (last_word M.AddCase add_case_at))) ts
+
+unfoldable pub field_function_at : Reader FunctionSyntax
+field_function_at ts =
+    word M.Default default_at (word M.MayBe (one_name_at rule.maybe) (word M.Map map_at (word M.Nest nest_at (word M.Unnest (one_name_at rule.unnest) shape_function_at)))) ts
+
 unfoldable pub function_at : Reader FunctionSyntax
 function_at ts =
-    if begins M.Rename ts then rename_at (drop 1 ts) else (do
-      rest ← behind M.Add ts
-      add_at rest)
+    word M.Rename rename_at (word M.Drop (one_name_at rule.drop) (word M.Add add_at (word M.Learn learn_at (word M.Forget (one_name_at rule.forget) field_function_at)))) ts
 
--- a rule, where S reads the rules of a `seq` one level down
-unfoldable pub rule_with : (S : Reader (List RuleSyntax)) → Reader RuleSyntax
-rule_with S ts =
-    if begins M.Seq ts then (do
-      rest ← behind M.Open (drop 1 ts)
-      rs ← S rest
-      end ← behind M.Close rs.1
-      Some (rule.seq (rules_of rs.0), end))
-    else (do
-      f ← function_at ts
-      Some (rule.function None f.0, f.1))
+unfoldable pub scoped_at : Reader RuleSyntax
+scoped_at ts = do
+  x ← text_at ts
+  f ← function_at x.1
+  Some (rule.function (Some x.0) f.0, f.1)
+
+-- rules behind their first word, where R reads a rule one level down, and S the rules of a `seq`
+abbrev pub all_at : Reader RuleSyntax → Reader RuleSyntax
+all_at R ts = do
+  r ← R ts
+  Some (rule.all r.0, r.1)
+
+abbrev pub everywhere_at : Reader RuleSyntax → Reader RuleSyntax
+everywhere_at R ts = do
+  r ← R ts
+  Some (rule.everywhere r.0, r.1)
+
+unfoldable pub on_at : Reader RuleSyntax → Reader RuleSyntax
+on_at R ts = do
+  n ← name_at ts
+  r ← R n.1
+  Some (rule.on n.0 r.0, r.1)
+
+unfoldable pub places_at : Reader RuleSyntax → Reader RuleSyntax
+places_at R ts = do
+  x ← text_at ts
+  r ← R x.1
+  Some (rule.at x.0 r.0, r.1)
+
+unfoldable pub seq_at : Reader (List RuleSyntax) → Reader RuleSyntax
+seq_at S ts = do
+  start ← behind M.Open ts
+  rs ← S start
+  rest ← behind M.Close rs.1
+  Some (rule.seq (rules_of rs.0), rest)
+
+unfoldable pub or_else_at : Reader RuleSyntax → Reader RuleSyntax
+or_else_at R ts = do
+  start ← behind M.Open ts
+  r ← R start
+  middle ← behind M.Comma r.1
+  s ← R middle
+  rest ← behind M.Close s.1
+  Some (rule.or_else r.0 s.0, rest)
+
+-- a function for the common fields
+abbrev pub common_at : Reader RuleSyntax
+common_at ts = do
+  f ← function_at ts
+  Some (rule.function None f.0, f.1)
+
+unfoldable pub joined_with : (R : Reader RuleSyntax) (S : Reader (List RuleSyntax)) → Reader RuleSyntax
+joined_with R S ts = word M.At (places_at R) (word M.Seq (seq_at S) (word M.OrElse (or_else_at R) (word M.In scoped_at common_at))) ts
+
+unfoldable pub rule_with : (R : Reader RuleSyntax) (S : Reader (List RuleSyntax)) → Reader RuleSyntax
+rule_with R S ts = word M.Nop (λ us. Some (rule.nop, us)) (word M.All (all_at R) (word M.Everywhere (everywhere_at R) (word M.On (on_at R) (joined_with R S)))) ts
 
 -- a comma and further rules, where they come
 abbrev pub comma_with : (S : Reader (List RuleSyntax)) → RuleSyntax × List Tok → Read (List RuleSyntax)
@@ -310,17 +548,14 @@ comma_with S r = if begins M.Comma r.1 then (do
   rs ← S (drop 1 r.1)
   Some (r.0 ∷ rs.0, rs.1)) else Some (r.0 ∷ [], r.1)
 
-unfoldable pub rules_at : ℕ → Reader (List RuleSyntax)
-rules_at zero ts = None
-rules_at (suc d) ts = rule_with (rules_at d) ts >>= comma_with (rules_at d)
+unfoldable mutual
+  pub rule_at : ℕ → Reader RuleSyntax
+  rule_at zero ts = None
+  rule_at (suc d) ts = rule_with (rule_at d) (rules_at d) ts
 
-unfoldable pub rule_at : ℕ → Reader RuleSyntax
-rule_at zero ts = None
-rule_at (suc d) ts = rule_with (rules_at d) ts
-
--- the rules that were read before, and those that are still read
-abbrev pub after_rules : List RuleSyntax → Read (List RuleSyntax) → Read (List RuleSyntax)
-after_rules front read = read >>= λ x. Some (front ++ x.0, x.1)
+  pub rules_at : ℕ → Reader (List RuleSyntax)
+  rules_at zero ts = None
+  rules_at (suc d) ts = rule_with (rule_at d) (rules_at d) ts >>= comma_with (rules_at d)
 
 -- declarations, behind their first word
 unfoldable pub form_at : Reader Form
@@ -354,11 +589,61 @@ named_at ts = do
   t ← template_at max_levels rest
   Some (decl.named n.0 t.0, t.1)
 
+abbrev pub field_step_at : Reader StepSyntax
+field_step_at ts = do
+  x ← text_at ts
+  Some (decl.field x.0, x.1)
+
+abbrev pub case_step_at : Reader StepSyntax
+case_step_at ts = do
+  x ← text_at ts
+  Some (decl.case x.0, x.1)
+
+unfoldable pub step_at : Reader StepSyntax
+step_at ts = word M.Each (λ us. Some (decl.each, us)) (word M.Left (λ us. Some (decl.left, us)) (word M.Right (λ us. Some (decl.right, us)) (word M.Case case_step_at field_step_at))) ts
+
+-- one or more steps, up to a colon; n bounds them
+unfoldable pub steps_at : ℕ → Reader (List StepSyntax)
+steps_at zero ts = None
+steps_at (suc n) ts = do
+  s ← step_at ts
+  if begins M.Colon s.1 then Some (s.0 ∷ [], s.1) else (do
+    ss ← steps_at n s.1
+    Some (s.0 ∷ ss.0, ss.1))
+
+-- fixes, behind their first word
+unfoldable pub new_type_at : Reader FixSyntax
+new_type_at ts = do
+  n ← name_at ts
+  rest ← behind M.Equals n.1
+  t ← template_at max_levels rest
+  Some (decl.new_type n.0 t.0, t.1)
+
+abbrev pub drop_type_at : Reader FixSyntax
+drop_type_at ts = do
+  n ← name_at ts
+  Some (decl.drop_type n.0, n.1)
+
+unfoldable pub deep_at : Reader FixSyntax
+deep_at ts = do
+  ss ← steps_at (length ts) ts
+  rest ← behind M.Colon ss.1
+  f ← leaf_at rest
+  Some (decl.deep ss.0 f.0, f.1)
+
+abbrev pub rule_fix_at : Reader FixSyntax
+rule_fix_at ts = do
+  r ← rule_at max_levels ts
+  Some (decl.rule r.0, r.1)
+
+unfoldable pub fix_text_at : Reader FixSyntax
+fix_text_at ts = word M.NewType new_type_at (word M.DropType drop_type_at (word M.Deep deep_at rule_fix_at)) ts
+
 unfoldable pub fix_at : Reader DeclSyntax
 fix_at ts = do
   z ← number_at ts
-  r ← rule_at max_levels z.1
-  Some (decl.fix z.0 (decl.rule r.0), r.1)
+  f ← fix_text_at z.1
+  Some (decl.fix z.0 f.0, f.1)
 
 unfoldable pub declaration_at : Reader DeclSyntax
 declaration_at ts =

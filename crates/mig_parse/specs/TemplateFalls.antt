@@ -5,16 +5,21 @@ use denote.Param.Weighed.{most}
 use Rattle.mig_parse.specs.declared.template.TemplateText.{TemplateText}
 use Rattle.mig_parse.specs.declared.template.TemplateText.TheVariants as V
 use Rattle.mig_parse.specs.declared.template.FieldText.{FieldText}
-use Rattle.mig_parse.specs.declared.template.FieldList.TheDeep.{deep-TemplateText, deep-FieldText}
-use Rattle.mig_parse.specs.TemplateSyntax.{template_size, field_list_size}
-use Rattle.mig_parse.specs.TemplateView.{template_of, field_of}
+use Rattle.mig_parse.specs.declared.template.CaseText.{CaseText}
+use Rattle.mig_parse.specs.declared.template.ChoiceText.TheDeep.{deep-TemplateText, deep-FieldText, deep-CaseText}
+use Rattle.mig_parse.specs.TemplateSyntax.{template_size, field_list_size, cases_size, cases_of}
+use Rattle.mig_parse.specs.TemplateView.{template_of, field_of, case_of}
 
 pub depth_template : (t : TemplateText) → deep-TemplateText t ≤ template_size (template_of t)
 depth_template (V.List t) = omega arith
-depth_template (V.Rec r) = omega arith
+depth_template (V.Rec r) = grind arith
 depth_template (V.Sum s t) = omega arith
 depth_template t = omega arith
 
 pub depth_fields : (fs : List FieldText) → most deep-FieldText fs ≤ field_list_size (map field_of fs)
 depth_fields [] = omega arith
 depth_fields (f ∷ fs) = omega (arith, depth_template f.template, depth_fields fs)
+
+pub depth_cases : (cs : List CaseText) → most deep-CaseText cs ≤ cases_size (cases_of (map case_of cs))
+depth_cases [] = omega arith
+depth_cases (c ∷ cs) = omega (arith, depth_cases cs)

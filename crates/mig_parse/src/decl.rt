@@ -1,10 +1,32 @@
-use crate::rule::RuleText;
+use crate::rule::{LeafText, RuleText};
 use crate::template::TemplateText;
 use mig_model::{Form, Name};
+
+/// The syntax of a step of a path into a tree.
+#[derive(Debug, Drop)]
+pub enum StepText {
+    /// `STRING`: the name of a field.
+    Named(Name),
+    /// `'each'`
+    Each,
+    /// `'left'`
+    Left,
+    /// `'right'`
+    Right,
+    /// `'case' STRING`: the literal of a case.
+    Case(Name),
+}
 
 /// The syntax of what a `fix` does.
 #[derive(Debug, Drop)]
 pub enum FixText {
+    /// `'newtype' NAME = template`
+    NewType(Name, TemplateText),
+    /// `'droptype' NAME`
+    DropType(Name),
+    /// `'deep' step {step} : leaf`: the steps to what is treated, and what is done to it.
+    Deep(Vec<StepText>, LeafText),
+    /// `rule`
     Rule(RuleText),
 }
 

@@ -7,9 +7,9 @@ ghost use Rattle.mig_parse.specs.Grammar.{Declaration};
 ghost use Rattle.mig_parse.specs.Reading.{Gives, form_at, missing_at, version_at, schema_at, named_at, fix_at, declaration_at};
 
 use crate::MAX_LEVELS;
-use crate::decl::{Decl, FixText};
+use crate::decl::Decl;
 use crate::error::ParseError;
-use crate::read_rule::rule_at;
+use crate::read_fix::fix_text_at;
 use crate::read_template::template_at;
 use crate::tokens::{begins, behind, behind_first, name_at, number_at, optional_at, text_at};
 use mig_model::Form;
@@ -83,8 +83,8 @@ fn fix_at<'a, 't>(
     ensures { Gives (λ x. (decl_of x.0, toks x.1.now)) result (fix_at (toks tokens.now)) }
 {
     let (number, rest) = number_at(tokens)?;
-    let (rule, rest) = rule_at(alloc, MAX_LEVELS, rest)?;
-    Ok((Decl::Fix(number, FixText::Rule(rule)), rest))
+    let (fix, rest) = fix_text_at(alloc, rest)?;
+    Ok((Decl::Fix(number, fix), rest))
 }
 
 /// The declaration that the tokens begin with.

@@ -31,6 +31,7 @@ pub struct TemplateBox {
 #[derive(Debug, Drop)]
 pub struct RecordText {
     pub fields: FieldList,
+    pub choice: Option<ChoiceText>,
     /// Whether `..` stands.
     pub dots: bool,
 }
@@ -45,7 +46,23 @@ pub struct FieldText {
     pub template: TemplateText,
 }
 
-/// The fields of a record, as they stand in the text. Their names may repeat.
+/// The syntax of a choice, `'choice' STRING { case {, case} }`. Contracts see the pair of the tag's name and the cases.
+#[cycle(template)]
+#[derive(Debug, Drop)]
+pub struct ChoiceText {
+    tag: Name,
+    cases: Vec<CaseText>,
+}
+
+/// The syntax of a case, `STRING { [field {, field}] }`.
+#[cycle(template)]
+#[derive(Debug, Drop)]
+pub struct CaseText {
+    pub literal: Name,
+    pub fields: FieldList,
+}
+
+/// Fields as they stand in the text. Their names may repeat.
 #[cycle(template)]
 #[derive(Debug, Drop)]
 pub struct FieldList {
@@ -70,6 +87,27 @@ impl Model for TemplateBox {
     ghost use Rattle.mig_parse.specs.TemplateFalls.{depth_template};
 
     ghost size_decreases = { λ a h. omega (arith, depth_template a.template.value) };
+}
+
+impl Model for ChoiceText {
+    ghost use Rattle.std.specs.Prelude.{map};
+    ghost use Rattle.mig_parse.specs.TemplateSyntax.{CasesOfTag, cases_of_tag_size};
+    ghost use Rattle.mig_parse.specs.TemplateCode.{coded_cases_of_tag};
+
+    ghost Value = { CasesOfTag };
+
+    ghost coded = { coded_cases_of_tag };
+
+    ghost use Rattle.mig_parse.specs.TemplateView.{case_of};
+
+    ghost view = { λ a. (a.tag, map case_of a.cases.items) };
+
+    ghost size = { cases_of_tag_size };
+
+    ghost use Rattle.std.proofs.Common.{arith};
+    ghost use Rattle.mig_parse.specs.TemplateFalls.{depth_cases};
+
+    ghost size_decreases = { λ a h. omega (arith, depth_cases a.cases.items) };
 }
 
 impl Model for FieldList {
@@ -112,6 +150,30 @@ impl TemplateBox {
         ensures { template_of result.now ≡ self.now }
     {
         &*self.template
+    }
+}
+
+impl ChoiceText {
+    ghost use Rattle.mig_parse.specs.TemplateView.{case_of};
+
+    pub(crate) fn new(tag: Name, cases: Vec<CaseText>) -> ChoiceText
+        ensures { result ≡ (tag, map case_of cases.items) }
+    {
+        ChoiceText { tag, cases }
+    }
+
+    /// The name of the tag.
+    pub fn tag(&self) -> &Name
+        ensures { result.now ≡ self.now.0 }
+    {
+        &self.tag
+    }
+
+    /// The cases in order. Their literals may repeat.
+    pub fn cases(&self) -> &[CaseText]
+        ensures { map case_of result.now ≡ self.now.1 }
+    {
+        self.cases.as_slice()
     }
 }
 

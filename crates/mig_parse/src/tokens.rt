@@ -1,7 +1,7 @@
 ghost use Rattle.std.specs.Prelude.{◌≡◌, drop};
 ghost use Rattle.mig_token.specs.Token.{toks};
 ghost use Rattle.mig_parse.specs.Grammar.{kind_word};
-ghost use Rattle.mig_parse.specs.Reading.{Gives, number_of, begins, behind, optional_at, name_at, text_at, number_at, first_kind};
+ghost use Rattle.mig_parse.specs.Reading.{Gives, number_of, begins, behind, optional_at, name_at, text_at, number_at, first_kind, kind_at, kind_or_any_at, pair_at};
 
 use crate::error::ParseError;
 use mig_model::{Kind, Name};
@@ -124,4 +124,43 @@ pub(crate) fn first_kind(tokens: &[Token]) -> Option<Kind>
         [Token::Mark(mark), ..] => kind_of(*mark),
         _ => None,
     }
+}
+
+pub(crate) fn kind_at<'a, 't>(
+    tokens: &'a [Token<'t>],
+) -> Result<(Kind, &'a [Token<'t>]), ParseError>
+    ensures { Gives (λ x. (x.0, toks x.1.now)) result (kind_at (toks tokens.now)) }
+{
+    match first_kind(tokens) {
+        Some(kind) => Ok((kind, behind_first(tokens))),
+        None => Err(ParseError::Wrong),
+    }
+}
+
+/// A kind, or None where `any` comes.
+pub(crate) fn kind_or_any_at<'a, 't>(
+    tokens: &'a [Token<'t>],
+) -> Result<(Option<Kind>, &'a [Token<'t>]), ParseError>
+    ensures { Gives (λ x. (x.0, toks x.1.now)) result (kind_or_any_at (toks tokens.now)) }
+{
+    match first_kind(tokens) {
+        Some(kind) => Ok((Some(kind), behind_first(tokens))),
+        None => {
+            let rest = behind(Mark::Any, tokens)?;
+            Ok((None, rest))
+        }
+    }
+}
+
+/// Two strings with `to` between them.
+pub(crate) fn pair_at<'a, 't>(
+    alloc: Global,
+    tokens: &'a [Token<'t>],
+) -> Result<((Name, Name), &'a [Token<'t>]), ParseError>
+    ensures { Gives (λ x. (x.0, toks x.1.now)) result (pair_at (toks tokens.now)) }
+{
+    let (left, rest) = text_at(alloc, tokens)?;
+    let rest = behind(Mark::To, rest)?;
+    let (right, rest) = text_at(alloc, rest)?;
+    Ok(((left, right), rest))
 }

@@ -4,7 +4,7 @@ use Rattle.mig_model.specs.declared.form.Form.{Form}
 use Rattle.mig_model.specs.Chain.{last_version}
 use Rattle.mig_parse.specs.DeclSyntax as decl
 use Rattle.mig_parse.specs.DeclSyntax.{DeclSyntax}
-use Rattle.mig_parse.specs.TemplateSyntax.{FieldsSyntax, no_field, field, FieldSyntax, fields_of, record_of}
+use Rattle.mig_parse.specs.TemplateSyntax.{FieldsSyntax, no_field, field, FieldSyntax, fields_of, record_of, no_choice}
 use Rattle.mig_parse.specs.RuleSyntax as rule
 use Rattle.mig_parse.specs.RuleSyntax.{RuleSyntax, RulesSyntax, rules_of}
 use Rattle.mig_small.specs.Small.{LeafField}
@@ -36,7 +36,7 @@ same_rules : (rs ss : List RuleSyntax) → rules_of rs ≡ rules_of ss → rs �
 same_rules rs ss e = sym (each_again rs) ∙ ap each_rule e ∙ each_again ss
 
 abbrev pub named_record : List ℕ → List FieldSyntax → DeclSyntax
-named_record n fs = decl.named n (record_of (fields_of fs) true)
+named_record n fs = decl.named n (record_of (fields_of fs) no_choice true)
 
 abbrev pub numbered : ℤ → List RuleSyntax → DeclSyntax
 numbered z rs = decl.fix z (decl.rule (rule.seq (rules_of rs)))

@@ -1,4 +1,4 @@
--- The strings of a declaration are spelled: they are strings of its tokens.
+-- The strings of a small chain's declarations are spelled: they are strings of the tokens. Of what no small chain has nothing is said.
 use Rattle.std.proofs.Common.{◌≡◌, ◌<◌, ◌≤◌, ◌^◌, ℕ, ℤ, List, [], ◌∷◌, ◌++◌, sym, subst}
 use Rattle.std.specs.List.{AllByRecursion}
 use Rattle.std.specs.Str.{chars}
@@ -58,11 +58,13 @@ SpelledFill (rule.empty_list t) = Unit {0}
 abbrev SpelledFunction : FunctionSyntax → Type 0
 SpelledFunction (rule.rename x y) = IsSpelled x × IsSpelled y
 SpelledFunction (rule.add x f) = IsSpelled x × SpelledFill f
+SpelledFunction _ = Unit {0}
 
 abbrev mutual
   pub SpelledRule : RuleSyntax → Type 0
   SpelledRule (rule.seq rs) = SpelledRules rs
   SpelledRule (rule.function x f) = SpelledFunction f
+  SpelledRule _ = Unit {0}
 
   pub SpelledRules : RulesSyntax → Type 0
   SpelledRules rule.no_rule = Unit {0}
@@ -70,6 +72,7 @@ abbrev mutual
 
 abbrev SpelledFix : FixSyntax → Type 0
 SpelledFix (decl.rule r) = SpelledRule r
+SpelledFix _ = Unit {0}
 
 abbrev pub SpelledDeclaration : DeclSyntax → Type 0
 SpelledDeclaration (decl.version s z) = IsSpelled s
@@ -92,11 +95,14 @@ spelled_fill a f (g.empty_list b t p) h = tt
 spelled_function : (a : List Tok) (f : FunctionSyntax) → Function a f → Spelt a → SpelledFunction f
 spelled_function a f (g.rename x y) h = (h.1.0, h.1.1.0)
 spelled_function a f (g.add x b e p) h = (h.1.0, spelled_fill b e p h.1.1.1)
+spelled_function a f _ h = tt
 
 mutual
   spelled_rule : (d : ℕ) (a : List Tok) (r : RuleSyntax) → Rule d a r → Spelt a → SpelledRule r
   spelled_rule d a r (g.seq e b rs p) h = spelled_rules e b rs p (front_spelt b _ h.1.1)
   spelled_rule d a r (g.a_function e b f p) h = spelled_function b f p h
+  spelled_rule d a r (g.in_case e x b f p) h = spelled_function b f p h.1.1
+  spelled_rule d a r _ h = tt
 
   spelled_rules : (d : ℕ) (a : List Tok) (rs : List RuleSyntax) → Rules d a rs → Spelt a → SpelledRules (rules_of rs)
   spelled_rules d a rs (g.last_rule e b r p) h = (spelled_rule e b r p h, tt)
@@ -104,6 +110,7 @@ mutual
 
 spelled_fix : (a : List Tok) (f : FixSyntax) → Fix a f → Spelt a → SpelledFix f
 spelled_fix a f (g.a_rule b r p) h = spelled_rule _ b r p h
+spelled_fix a f _ h = tt
 
 spelled_declaration : (a : List Tok) (d : DeclSyntax) → Declaration a d → Spelt a → SpelledDeclaration d
 spelled_declaration a d g.form_nbt h = tt

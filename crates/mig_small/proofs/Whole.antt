@@ -69,8 +69,8 @@ whole text rest p s short cuts blank n =
     record {
       pieces = nine_list p;
       rest = rest;
-      declarations = decl.form s.form ∷ decl.version s.version n.version.0 ∷ decl.schema (pos s.first) _ ∷ decl.named s.root (template.record_of (fields_of b.0) _) ∷ decl.root s.root
-          ∷ decl.fix (pos s.second) (decl.rule (rule.seq (rules_of f.0))) ∷ decl.schema (pos s.second) _ ∷ decl.named s.root (template.record_of (fields_of a.0) _) ∷ decl.root s.root ∷ [];
+      declarations = decl.form s.form ∷ decl.version s.version n.version.0 ∷ decl.schema (pos s.first) _ ∷ decl.named s.root (template.record_of (fields_of b.0) _ _) ∷ decl.root s.root
+          ∷ decl.fix (pos s.second) (decl.rule (rule.seq (rules_of f.0))) ∷ decl.schema (pos s.second) _ ∷ decl.named s.root (template.record_of (fields_of a.0) _ _) ∷ decl.root s.root ∷ [];
       short = short;
       cuts = cuts;
       blank = blank;
@@ -93,8 +93,8 @@ whole text rest p s short cuts blank n =
         added = s.added;
         constant = add.0;
         meant = s.constant;
-        nine = ap (λ rs. decl.form s.form ∷ decl.version s.version n.version.0 ∷ decl.schema (pos s.first) false ∷ decl.named s.root (template.record_of (fields_of b.0) true) ∷ decl.root s.root
-            ∷ decl.fix (pos s.second) (decl.rule (rule.seq (rules_of rs))) ∷ decl.schema (pos s.second) false ∷ decl.named s.root (template.record_of (fields_of a.0) true) ∷ decl.root s.root ∷ []) (e.2 ∙ (λ i. e.3 i ∷ add.1 i ∷ []));
+        nine = ap (λ rs. decl.form s.form ∷ decl.version s.version n.version.0 ∷ decl.schema (pos s.first) false ∷ decl.named s.root (template.record_of (fields_of b.0) template.no_choice true) ∷ decl.root s.root
+            ∷ decl.fix (pos s.second) (decl.rule (rule.seq (rules_of rs))) ∷ decl.schema (pos s.second) false ∷ decl.named s.root (template.record_of (fields_of a.0) template.no_choice true) ∷ decl.root s.root ∷ []) (e.2 ∙ (λ i. e.3 i ∷ add.1 i ∷ []));
         is_missing = n.version.2;
         makes_before = b.2;
         makes_after = a.2;
@@ -164,7 +164,7 @@ told text c t =
         version = (sp.missing, x2.3, sp.is_missing);
         before = record { head = (h.first_small, x3.3); named = (sp.fields, x4.3, sp.makes_before); root = subst (λ r. IsDeclared x5.0 (decl.root r)) h.root_is x5.3; formed = h.formed };
         fix = (rules, h.second_small, subst (λ n. IsDeclared x6.0 (decl.fix (pos n) (decl.rule (rule.seq (rules_of rules))))) h.number_is x6.3, (_, _, refl, refl, (sp.constant, refl, sp.means, sp.in_form)));
-        after = record { head = (h.second_small, x7.3); named = (sp.fields_again, subst (λ n. IsDeclared x8.0 (decl.named n (template.record_of (fields_of sp.fields_again) true))) h.again_is x8.3, sp.makes_after); root = subst (λ r. IsDeclared x9.0 (decl.root r)) h.root_again_is x9.3; formed = h.formed_again };
+        after = record { head = (h.second_small, x7.3); named = (sp.fields_again, subst (λ n. IsDeclared x8.0 (decl.named n (template.record_of (fields_of sp.fields_again) template.no_choice true))) h.again_is x8.3, sp.makes_after); root = subst (λ r. IsDeclared x9.0 (decl.root r)) h.root_again_is x9.3; formed = h.formed_again };
         order = h.order;
         lifts = h.lifts;
       };

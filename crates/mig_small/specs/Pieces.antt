@@ -41,7 +41,7 @@ IsHead piece n = (n ≤ last_version) × IsDeclared piece (decl.schema (pos n) f
 
 -- a type that is an open record of leaves
 abbrev pub IsRecord : Form → List ℕ → List ℕ × List LeafField → Type 0
-IsRecord form piece r = (fs : List FieldSyntax) × IsDeclared piece (decl.named r.0 (template.record_of (fields_of fs) true)) × MakeRecord form fs r.1
+IsRecord form piece r = (fs : List FieldSyntax) × IsDeclared piece (decl.named r.0 (template.record_of (fields_of fs) template.no_choice true)) × MakeRecord form fs r.1
 
 -- the field of a text is this one: it has no `?`, and is a leaf of a kind of the form
 abbrev pub IsLeafField : Form → FieldSyntax → LeafField → Type 0

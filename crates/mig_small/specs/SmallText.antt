@@ -79,9 +79,9 @@ pub record Spells (ds : List DeclSyntax) (c : Chain) : Type 0 where
   pub meant : Const
   pub nine : ds
       ≡ decl.form c.form ∷ decl.version c.version missing
-      ∷ decl.schema (pos first) false ∷ decl.named named (template.record_of (fields_of fields) true) ∷ decl.root root
+      ∷ decl.schema (pos first) false ∷ decl.named named (template.record_of (fields_of fields) template.no_choice true) ∷ decl.root root
       ∷ decl.fix (pos number) (decl.rule (rule.seq (rules_of (rule.function None (rule.rename old_name new_name) ∷ rule.function None (rule.add added (rule.const constant)) ∷ []))))
-      ∷ decl.schema (pos second) false ∷ decl.named named_again (template.record_of (fields_of fields_again) true) ∷ decl.root root_again ∷ []
+      ∷ decl.schema (pos second) false ∷ decl.named named_again (template.record_of (fields_of fields_again) template.no_choice true) ∷ decl.root root_again ∷ []
   pub is_missing : IsMissing missing c.missing
   pub makes_before : MakeRecord c.form fields before
   pub makes_after : MakeRecord c.form fields_again after

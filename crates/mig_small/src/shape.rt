@@ -2,13 +2,13 @@ ghost use Rattle.std.specs.Prelude.{◌≡◌, ℕ, ℤ, List, Option, true, fal
 ghost use Rattle.mig_model.specs.declared.form.Form as model_form;
 ghost use Rattle.mig_parse.specs.DeclSyntax as decl;
 ghost use Rattle.mig_parse.specs.DeclView.{decl_of};
-ghost use Rattle.mig_parse.specs.TemplateSyntax.{TemplateSyntax, FieldSyntax, fields_of, record_of};
+ghost use Rattle.mig_parse.specs.TemplateSyntax.{TemplateSyntax, FieldSyntax, fields_of, record_of, no_choice};
 ghost use Rattle.mig_parse.specs.TemplateView.{template_of};
 ghost use Rattle.mig_parse.specs.RuleSyntax as rule;
 ghost use Rattle.mig_parse.specs.RuleSyntax.{RuleSyntax, rules_of};
 
 use mig_model::{Form, Name};
-use mig_parse::{Decl, FieldList, FixText, RuleList, RuleText, TemplateText};
+use mig_parse::{Decl, FieldList, FixText, RecordText, RuleList, RuleText, TemplateText};
 
 /// The form, of a declaration of the form.
 pub(crate) fn as_form(declared: Decl) -> Option<Form>
@@ -75,12 +75,18 @@ fn as_named(declared: Decl) -> Option<(Name, TemplateText)>
     }
 }
 
-/// The fields of a record with `..`.
+/// The fields of a record with `..` and without a choice.
 fn as_open(template: TemplateText) -> Option<FieldList>
-    ensures { MatchOption result ((fs : List FieldSyntax) → template_of template ≡ record_of (fields_of fs) true → ⊥) (λ fs. template_of template ≡ record_of (fields_of fs) true) }
+    ensures { MatchOption result ((fs : List FieldSyntax) → template_of template ≡ record_of (fields_of fs) no_choice true → ⊥) (λ fs. template_of template ≡ record_of (fields_of fs) no_choice true) }
 {
     match template {
-        TemplateText::Rec(record) if record.dots => Some(record.fields),
+        TemplateText::Rec(
+            RecordText {
+                fields,
+                choice: None,
+                dots: true,
+            },
+        ) => Some(fields),
         other => {
             drop(other);
             None
@@ -88,10 +94,10 @@ fn as_open(template: TemplateText) -> Option<FieldList>
     }
 }
 
-/// The name and the fields of a type that is a record with `..`.
+/// The name and the fields of a type that is a record with `..` and without a choice.
 pub(crate) fn as_record(declared: Decl) -> Option<(Name, FieldList)>
-    ensures { MatchOption result ((n : List ℕ) (fs : List FieldSyntax) → decl_of declared ≡ decl.named n (record_of (fields_of fs) true) → ⊥)
-        (λ x. decl_of declared ≡ decl.named x.0 (record_of (fields_of x.1) true)) }
+    ensures { MatchOption result ((n : List ℕ) (fs : List FieldSyntax) → decl_of declared ≡ decl.named n (record_of (fields_of fs) no_choice true) → ⊥)
+        (λ x. decl_of declared ≡ decl.named x.0 (record_of (fields_of x.1) no_choice true)) }
 {
     let (name, template) = as_named(declared)?;
     let fields = as_open(template)?;

@@ -1,6 +1,6 @@
 -- What is due by the text of a chain.
 use Rattle.std.proofs.Common.{rules, ◌≡◌, ◌≤◌, refl, sym, subst, ℕ, List, Some, None}
-use Rattle.mig_model.specs.Chain.{Chain}
+use Rattle.mig_small.specs.Chain.{Chain}
 use Rattle.mig_small.specs.Small.{Small, chain_of}
 use Rattle.mig_small.specs.SmallText.{IsSmallText}
 use Rattle.mig_lift.specs.Setting.{Setting}

@@ -1,7 +1,7 @@
 -- The words of the command line, and what a run of them does.
 use Rattle.std.specs.Prelude.{◌≡◌, ◌⊎◌, ℕ, ◌+◌, ◌-◌, ◌*◌, ◌<◌, ◌==◌, nat_lt, nat_le, ◌&&◌, if◌then◌else◌, Bool, List, [], ◌∷◌, length, Option, Some, None, option_map, Result, Ok, Err, codes, bytes_eq}
 use Rattle.mig_files.specs.Held.{Held, Rose, Counts}
-use Rattle.mig_model.specs.Chain.{Chain, first_schema}
+use Rattle.mig_small.specs.Chain.{Chain, first_schema}
 use Rattle.mig_small.specs.SmallText.{IsSmallText}
 use Rattle.lift_saves.specs.declared.stop.Stop.{Stop}
 use Rattle.lift_saves.specs.declared.stop.Stop.TheVariants as stop

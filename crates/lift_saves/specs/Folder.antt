@@ -6,7 +6,7 @@ use Rattle.std.specs.Cmp.Lexicographic.{slice_cmp}
 use Rattle.mig_files.specs.Held.{Key, Held, assign, is_among}
 use Rattle.mig_model.specs.declared.form.Form.{Form}
 use Rattle.mig_model.specs.declared.form.Form.TheVariants as F
-use Rattle.mig_model.specs.Chain.{Chain}
+use Rattle.mig_small.specs.Chain.{Chain}
 use Rattle.mig_lift.specs.Lift.{Save, Cause, lift}
 use Rattle.mig_lift.specs.Lift as lifting
 use Rattle.lift_saves.specs.declared.stop.Stop.{Stop}

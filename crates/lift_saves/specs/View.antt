@@ -1,7 +1,7 @@
 -- What the answers of the parts stand for.
 use Rattle.std.specs.Prelude.{◌≡◌, ◌⊎◌, ℕ, List, [], codes, Option, Some, None, Result, Ok, Err}
 use Rattle.mig_files.specs.Held.{Key, Held, Counts}
-use Rattle.mig_model.specs.Chain.{Chain}
+use Rattle.mig_small.specs.Chain.{Chain}
 use Rattle.mig_small.specs.Small.{chain_of}
 use Rattle.mig_lift.specs.Lift.{Save, Cause}
 use Rattle.mig_lift.specs.Lift as lifting

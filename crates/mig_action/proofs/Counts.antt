@@ -9,7 +9,7 @@ use Rattle.mig_model.specs.Plain.{Plain}
 use Rattle.mig_model.specs.Kinds.{kind_of}
 use Rattle.mig_model.specs.Names.{by_bytes}
 use Rattle.mig_model.specs.Template.{Field, same_name, same_kind}
-use Rattle.mig_model.specs.Function.{if_so}
+use Rattle.mig_model.specs.Fields.{if_so}
 use Rattle.mig_template.specs.Parts as template
 use Rattle.mig_template.specs.Parts.{is_among, found_case}
 use Rattle.mig_value.specs.Typed.{Typed, atom, list, left, right, rec, point, no_item, item, Slot, slots, slots_of}

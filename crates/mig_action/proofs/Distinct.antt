@@ -6,7 +6,7 @@ use Rattle.std.specs.Map.{keys_of}
 use Rattle.mig_model.specs.declared.presence.Presence.{Presence}
 use Rattle.mig_model.specs.Ascends.{Ascends}
 use Rattle.mig_model.specs.Template.{Template, Field, cases_of, same_name, is_open}
-use Rattle.mig_model.specs.Function.{is_field, is_in_choice, is_case_field}
+use Rattle.mig_model.specs.Fields.{is_field, is_in_choice, is_case_field}
 use Rattle.mig_model.specs.Family.{has_twice}
 use Rattle.mig_template.specs.Parts as template
 use Rattle.mig_template.specs.Parts.{RecordParts, IsRecord, choice_of, found_case, is_among, is_twice_named, is_twice_in, has_twice_in, CasesAscend}

@@ -6,7 +6,7 @@ use Rattle.mig_model.specs.declared.presence.Presence.{Presence}
 use Rattle.mig_model.specs.Plain as plain
 use Rattle.mig_model.specs.Plain.{pairs_of, entries}
 use Rattle.mig_model.specs.Template.{Template}
-use Rattle.mig_model.specs.Treat.{on_entries}
+use Rattle.mig_model.specs.Plain.{on_entries}
 use Rattle.mig_template.specs.Parts as template
 use Rattle.mig_value.specs.Typed.{Typed, out, tag_pair}
 use Rattle.mig_value.specs.Parts as value

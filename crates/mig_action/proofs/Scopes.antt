@@ -7,7 +7,7 @@ use Rattle.mig_model.specs.Plain as plain
 use Rattle.mig_model.specs.Plain.{Plain}
 use Rattle.mig_model.specs.Ascends.{Ascends}
 use Rattle.mig_model.specs.Template.{Template, Field, fields_of, same_name, cases_of, is_open}
-use Rattle.mig_model.specs.Function.{is_field, is_in_choice, is_case_field}
+use Rattle.mig_model.specs.Fields.{is_field, is_in_choice, is_case_field}
 use Rattle.mig_model.specs.Inhabits.{Entries}
 use Rattle.mig_template.specs.Parts as template
 use Rattle.mig_template.specs.Parts.{IsRecord, choice_of, found_case}

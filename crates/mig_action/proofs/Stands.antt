@@ -5,7 +5,7 @@ use Rattle.mig_model.specs.declared.presence.Presence.{Presence}
 use Rattle.mig_model.specs.Ascends.{Ascends}
 use Rattle.mig_model.specs.Names.{found}
 use Rattle.mig_model.specs.Template.{Template, Field, fields_of, cases_of, same_name, is_must, is_open}
-use Rattle.mig_model.specs.Function.{is_field}
+use Rattle.mig_model.specs.Fields.{is_field}
 use Rattle.mig_model.specs.Inhabits.{Entries, has_musts}
 use Rattle.mig_template.specs.Parts as template
 use Rattle.mig_template.specs.Parts.{RecordParts, choice_of, found_case}

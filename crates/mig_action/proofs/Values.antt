@@ -7,8 +7,9 @@ use Rattle.mig_model.specs.declared.presence.Presence.TheVariants.{May}
 use Rattle.mig_model.specs.Plain.{Plain}
 use Rattle.mig_model.specs.Kinds.{kind_of}
 use Rattle.mig_model.specs.Template.{Template, leaf, sum, same_kind, is_leaf}
-use Rattle.mig_model.specs.Function.{Const, const_kind, const_tree, if_so}
-use Rattle.mig_model.specs.Function as model
+use Rattle.mig_model.specs.Const.{Const, const_kind, const_tree}
+use Rattle.mig_model.specs.Fields.{if_so}
+use Rattle.mig_model.specs.Const as model
 use Rattle.mig_model.specs.Leaf.{LeafFn, leaf_out, leaf_value}
 use Rattle.mig_leaf.proofs.KindOut.{value_has_kind}
 use Rattle.mig_value.specs.Typed.{Typed, atom, list, left, right, rec, point, out}

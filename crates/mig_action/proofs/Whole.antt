@@ -7,7 +7,7 @@ use Rattle.mig_model.specs.Plain as plain
 use Rattle.mig_model.specs.Plain.{Plain}
 use Rattle.mig_model.specs.Names.{found}
 use Rattle.mig_model.specs.Template.{Template, Field, same_name}
-use Rattle.mig_model.specs.Function.{is_in_choice}
+use Rattle.mig_model.specs.Fields.{is_in_choice}
 use Rattle.mig_model.specs.Inhabits.{has_tag, is_text}
 use Rattle.mig_template.specs.Parts as template
 use Rattle.mig_template.specs.Parts.{choice_of, found_case}

@@ -4,7 +4,7 @@ use Rattle.mig_model.specs.declared.kind.Kind.{Kind}
 use Rattle.mig_model.specs.Plain as plain
 use Rattle.mig_model.specs.Plain.{Plain, no_tree}
 use Rattle.mig_model.specs.Template.{Template, leaf, list, Field}
-use Rattle.mig_model.specs.Function.{Const, const_kind, const_tree}
+use Rattle.mig_model.specs.Const.{Const, const_kind, const_tree}
 use Rattle.mig_model.specs.Leaf.{LeafFn}
 
 -- the common fields of a record, or the fields of the case with a literal

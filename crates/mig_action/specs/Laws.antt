@@ -3,7 +3,7 @@ use Rattle.std.specs.Prelude.{◌≡◌, ◌≤◌, ℕ, List, Some, Contains}
 use Rattle.std.specs.List.{AllByRecursion}
 use Rattle.mig_model.specs.declared.form.Form.{Form}
 use Rattle.mig_model.specs.Template.{Template}
-use Rattle.mig_model.specs.Treat.{on_entries}
+use Rattle.mig_model.specs.Plain.{on_entries}
 use Rattle.mig_template.specs.Parts as template
 use Rattle.mig_template.specs.Kept as template_kept
 use Rattle.mig_value.specs.Typed.{out}

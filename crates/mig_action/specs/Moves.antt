@@ -4,7 +4,7 @@ use Rattle.mig_model.specs.declared.kind.Kind.{Kind}
 use Rattle.mig_model.specs.Plain.{Plain}
 use Rattle.mig_model.specs.Kinds.{kind_of}
 use Rattle.mig_model.specs.Template.{Field, same_kind, same_name}
-use Rattle.mig_model.specs.Function.{if_so}
+use Rattle.mig_model.specs.Fields.{if_so}
 use Rattle.mig_model.specs.Leaf.{leaf_value}
 use Rattle.mig_template.specs.Parts as template
 use Rattle.mig_template.specs.Parts.{found_case}

@@ -9,7 +9,8 @@ use Rattle.mig_model.specs.declared.presence.Presence.TheVariants.{Must, May}
 use Rattle.mig_model.specs.declared.rest.Rest.{Rest}
 use Rattle.mig_model.specs.declared.rest.Rest.TheVariants.{Open}
 use Rattle.mig_model.specs.Template.{Template, leaf, any, list, rec, sum, Field, fields_of, field_list, no_choice, same_name, same_kind, is_leaf, is_must, is_open}
-use Rattle.mig_model.specs.Function.{is_in_choice, if_so}
+use Rattle.mig_model.specs.Fields.{is_in_choice}
+use Rattle.mig_model.specs.Fields.{if_so}
 use Rattle.mig_model.specs.Leaf.{LeafFn, leaf_out}
 use Rattle.mig_model.specs.Family.{has_twice, any_inside, has_point_side, sides_overlap}
 use Rattle.mig_template.specs.Parts.{RecordParts, Cases, choice_of, found_case, is_among}

@@ -8,7 +8,7 @@ use Rattle.mig_model.specs.Plain.{Plain}
 use Rattle.mig_model.specs.Names.{by_bytes, found}
 use Rattle.mig_model.specs.Inhabits.{Entries, has_musts}
 use Rattle.mig_model.specs.Family.{Family, body}
-use Rattle.mig_model.specs.Function.{is_field}
+use Rattle.mig_model.specs.Fields.{is_field}
 use Rattle.mig_model.specs.Template.{Field, fields_of, choice, cases_of, same_name, no_field, no_choice}
 use Rattle.mig_template.specs.Parts as parts
 use Rattle.mig_template.specs.Parts.{RecordParts, found_field, choice_of}

@@ -2,7 +2,7 @@
 use Rattle.std.proofs.Common.{◌≡◌, ℕ, List, [], true, false, true≢false, Option, Some, None, refl, sym, ap, subst, ◌∙◌}
 use Rattle.std.specs.Prelude.{◌||◌, is_some, option_map, option_and_then, unwrap_or, if◌then◌else◌}
 use Rattle.mig_model.specs.Template.{Field}
-use Rattle.mig_model.specs.Function.{is_in_choice}
+use Rattle.mig_model.specs.Fields.{is_in_choice}
 use Rattle.mig_template.specs.Parts as template
 use Rattle.mig_template.specs.Parts.{choice_of, found_case}
 use Rattle.mig_value.specs.Typed.{Tag}

@@ -5,7 +5,7 @@ use Rattle.std.specs.List.{AllByRecursion}
 use Rattle.std.specs.Map.{keys_of}
 use Rattle.mig_model.specs.Ascends.{Ascends}
 use Rattle.mig_model.specs.Family.{has_twice}
-use Rattle.mig_model.specs.Function.{if_so}
+use Rattle.mig_model.specs.Fields.{if_so}
 use Rattle.mig_model.specs.Template.{Field, same_name}
 use Rattle.mig_template.specs.Kept.{RecordKept}
 use Rattle.mig_template.specs.Parts.{Case, Cases, RecordParts, IsRecordOf, IsOrderOf, has_twice_in, is_twice_named}

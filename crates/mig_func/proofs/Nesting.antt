@@ -9,7 +9,7 @@ use Rattle.mig_model.specs.declared.rest.Rest.{Rest}
 use Rattle.mig_model.specs.declared.rest.Rest.TheVariants.{Open}
 use Rattle.mig_model.specs.Ascends.{Ascends}
 use Rattle.mig_model.specs.Family.{has_twice}
-use Rattle.mig_model.specs.Function.{if_so}
+use Rattle.mig_model.specs.Fields.{if_so}
 use Rattle.mig_model.specs.Template.{rec, Field, fields_of, Choice, no_choice, same_name}
 use Rattle.std.specs.Prelude.{IsPermutation}
 use Rattle.std.proofs.lemmas.List.Sorted.{IsPermutation-refl}

@@ -13,7 +13,7 @@ use Rattle.mig_model.specs.declared.kind.Kind.{Kind}
 use Rattle.mig_model.specs.Names.{by_bytes}
 use Rattle.mig_model.specs.Ascends.{Ascends}
 use Rattle.mig_model.specs.Family.{has_twice}
-use Rattle.mig_model.specs.Function.{if_so}
+use Rattle.mig_model.specs.Fields.{if_so}
 use Rattle.mig_model.specs.Template.{Field, same_name, is_open}
 use Rattle.mig_template.specs.Parts.{IsOrderOf, is_among}
 use Rattle.mig_template.proofs.Names.{twice_in_both}

@@ -6,7 +6,7 @@ use Rattle.std.specs.Map.{keys_of, lookup}
 use Rattle.std.specs.BTreeMap.{is_at}
 use Rattle.mig_model.specs.Names.{by_bytes}
 use Rattle.mig_model.specs.Family.{has_twice}
-use Rattle.mig_model.specs.Function.{is_case_field, is_field}
+use Rattle.mig_model.specs.Fields.{is_case_field, is_field}
 use Rattle.mig_model.specs.Template.{Field, fields_of, cases_of, same_name}
 use Rattle.mig_template.specs.Parts as parts
 use Rattle.mig_template.specs.Parts.{RecordParts, IsRecord, Cases, choice_of, is_among, has_twice_in, is_twice_in, is_twice_named}

@@ -6,7 +6,7 @@ use Rattle.mig_model.specs.declared.rest.Rest.{Rest}
 use Rattle.mig_model.specs.Template.{Field}
 use Rattle.mig_model.specs.Family.{has_twice}
 use Rattle.mig_action.specs.Edits.{has}
-use Rattle.mig_model.specs.Function.{is_in_choice}
+use Rattle.mig_model.specs.Fields.{is_in_choice}
 use Rattle.mig_template.specs.Parts.{Case, Cases, RecordParts, IsOrderOf, choice_of}
 use Rattle.mig_action.specs.FieldFn.{Scope, FieldOp, retag, add_case}
 use Rattle.mig_action.specs.NewRecord.{new_fields, with_fields, is_tag, is_clear}

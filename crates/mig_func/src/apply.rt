@@ -3,7 +3,7 @@ ghost use Rattle.std.specs.List.{AllByRecursion};
 ghost use Rattle.mig_model.specs.declared.form.Form.{Form};
 ghost use Rattle.mig_model.specs.Template as plain;
 ghost use Rattle.mig_model.specs.Template.{same_name};
-ghost use Rattle.mig_model.specs.Treat.{on_entries};
+ghost use Rattle.mig_model.specs.Plain.{on_entries};
 ghost use Rattle.mig_template.specs.Parts as template;
 ghost use Rattle.mig_template.specs.Parts.{found_case};
 ghost use Rattle.mig_value.specs.Typed.{out};

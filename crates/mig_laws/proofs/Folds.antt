@@ -4,7 +4,7 @@ use Rattle.mig_model.specs.declared.form.Form.{Form}
 use Rattle.mig_model.specs.Plain.{Plain}
 use Rattle.mig_model.specs.Template.{Template}
 use Rattle.mig_model.specs.Inhabits.{Fits, depth, InhabitsWithin, Inhabits}
-use Rattle.mig_model.specs.Treat.{treat, fold_within, fold}
+use Rattle.mig_fold.specs.Fold.{treat, fold_within, fold}
 use Rattle.mig_model.specs.Family.{Family, body, IsFormed}
 use Rattle.mig_laws.specs.Sides.{SumsApart}
 use Rattle.mig_laws.proofs.Inhabitants.{within_or_at, inhabits_up, deep_enough}

@@ -13,7 +13,7 @@ use Rattle.mig_model.specs.Plain.{Plain}
 use Rattle.mig_model.specs.Kinds.{kind_of}
 use Rattle.mig_model.specs.Names.{by_bytes, found}
 use Rattle.mig_model.specs.Template.{Template, sum, Fields, no_field, field, Field, fields_of, field_list, choice, Cases, no_case, case, case_list, same_name, has_kind, is_must, is_open}
-use Rattle.mig_model.specs.Function.{find_field}
+use Rattle.mig_model.specs.Fields.{find_field}
 use Rattle.mig_model.specs.Inhabits.{Entries, has_tag}
 use Rattle.mig_model.specs.Place.{Place, Wrong, named, index, sooner, under, or_else, wrong_item, at_name, wrong_entry, missing, missing_in_case, is_literal, wrong_map, unless, wrong, wrong_fields, wrong_cases}
 

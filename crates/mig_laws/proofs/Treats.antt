@@ -9,7 +9,8 @@ use Rattle.mig_model.specs.Kinds.{kind_of, items_of_trees, entries_of_pairs}
 use Rattle.mig_model.specs.Names.{found}
 use Rattle.mig_model.specs.Template.{Template, leaf, any, list, point, rec, sum, Fields, no_field, field, Choice, no_choice, choice, Cases, no_case, case, same_name, has_kind, is_must}
 use Rattle.mig_model.specs.Inhabits.{Entries, EachItem, IsListOf, EachEntry, IsMapOf, is_text, has_tag, has_musts, has_case, is_complete, Unknown, Fits, FieldsFit, ChoiceFits, CasesFit}
-use Rattle.mig_model.specs.Treat.{on_items, on_entries, each_entry, treat, treat_fields, treat_choice, treat_cases}
+use Rattle.mig_model.specs.Plain.{on_items, on_entries, each_entry}
+use Rattle.mig_fold.specs.Fold.{treat, treat_fields, treat_choice, treat_cases}
 use Rattle.mig_laws.specs.Sides.{SumsApart, FieldsApart, ChoiceApart, CasesApart}
 use Rattle.mig_laws.proofs.Tests.{if_agree, same_name_is, same_name_itself}
 use Rattle.mig_laws.proofs.Inhabitants.{RecordFits}

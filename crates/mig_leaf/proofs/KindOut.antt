@@ -6,8 +6,8 @@ use Rattle.mig_model.specs.declared.kind.Kind.{Kind}
 use Rattle.mig_model.specs.declared.kind.Kind.TheVariants as K
 use Rattle.mig_model.specs.Plain.{Plain}
 use Rattle.mig_model.specs.Kinds.{kind_of}
-use Rattle.mig_model.specs.Function as model
-use Rattle.mig_model.specs.Function.{Const, const_kind, const_tree}
+use Rattle.mig_model.specs.Const as model
+use Rattle.mig_model.specs.Const.{Const, const_kind, const_tree}
 use Rattle.mig_model.specs.Leaf.{LeafFn, is_text, constant, plus, times, clamp_to, to_kind, to_text, of_text, table, prefix, strip, lower, is_whole_number, is_in, clamp, clamped, number_tree, spelled, text_of, leaf_out, leaf_value}
 use Rattle.mig_model.specs.Template.{same_kind, is_leaf}
 use Rattle.mig_leaf.proofs.Numbers.{clamped_between}

@@ -11,7 +11,7 @@ use Rattle.mig_model.specs.declared.kind.Kind.{Kind}
 use Rattle.mig_model.specs.declared.kind.Kind.TheVariants as K
 use Rattle.mig_model.specs.Plain as plain
 use Rattle.mig_model.specs.Plain.{Plain}
-use Rattle.mig_model.specs.Function.{Const, const_kind, const_tree}
+use Rattle.mig_model.specs.Const.{Const, const_kind, const_tree}
 use Rattle.mig_model.specs.Leaf.{least, greatest, is_in, clamp, clamped, number_tree, spells, spelled, read_or}
 use Rattle.mig_leaf.proofs.Decimal.{value_is}
 

@@ -3,7 +3,7 @@ use Rattle.mig_leaf.specs.declared.constant.Const.{Const}
 use Rattle.mig_leaf.specs.declared.constant.Const.TheVariants as V
 use Rattle.mig_leaf.specs.declared.leaf_fn.LeafFn.{LeafFn}
 use Rattle.mig_leaf.specs.declared.leaf_fn.LeafFn.TheVariants as F
-use Rattle.mig_model.specs.Function as model
+use Rattle.mig_model.specs.Const as model
 use Rattle.mig_model.specs.Leaf as leaf
 
 abbrev pub const_of : Const → model.Const

@@ -25,7 +25,7 @@ const NOTHING: &[u8] = b"";
 
 impl Const {
     ghost use Rattle.mig_tree.specs.View.{plain_of};
-    ghost use Rattle.mig_model.specs.Function.{const_kind, const_tree};
+    ghost use Rattle.mig_model.specs.Const.{const_kind, const_tree};
     ghost use Rattle.mig_leaf.specs.View.{const_of};
 
     /// The kind of the constant.

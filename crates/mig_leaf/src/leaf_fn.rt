@@ -1,7 +1,7 @@
 ghost use Rattle.std.specs.Prelude.{◌≡◌, IfOk, IsTrue, is_some, Some};
 ghost use Rattle.mig_tree.specs.View.{plain_of};
 ghost use Rattle.mig_model.specs.Kinds.{kind_of};
-ghost use Rattle.mig_model.specs.Function.{const_kind, const_tree};
+ghost use Rattle.mig_model.specs.Const.{const_kind, const_tree};
 ghost use Rattle.mig_model.specs.Leaf.{is_whole_number, to_text, shown, read_or, leaf_out, leaf_value};
 ghost use Rattle.mig_leaf.specs.View.{const_of, leaf_fn_of};
 

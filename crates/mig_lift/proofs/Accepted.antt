@@ -5,10 +5,10 @@ use Rattle.mig_model.specs.Plain.{Plain}
 use Rattle.mig_model.specs.Kinds.{IsMap}
 use Rattle.mig_model.specs.Template.{Template, any, same_name}
 use Rattle.mig_model.specs.Inhabits.{depth}
-use Rattle.mig_model.specs.Treat.{treat, fold_within}
-use Rattle.mig_model.specs.Rule.{target, act, act_if, plain_rule}
+use Rattle.mig_fold.specs.Fold.{treat, fold_within}
+use Rattle.mig_small.specs.Rule.{target, act, act_if, plain_rule}
 use Rattle.mig_model.specs.Family.{body, IsFormed}
-use Rattle.mig_model.specs.Chain.{IsAccepted, floor_family, fixed}
+use Rattle.mig_small.specs.Chain.{IsAccepted, floor_family, fixed}
 use Rattle.mig_small.specs.Small.{Small, LeafField, open_record, family_with, rule_of, chain_of}
 use Rattle.mig_lift.proofs.OpenRecord.{same_itself, nothing_treated}
 

@@ -4,8 +4,9 @@ use Rattle.mig_model.specs.Plain as plain
 use Rattle.mig_model.specs.Plain.{Plain, pairs_of, entries}
 use Rattle.mig_model.specs.Kinds.{IsMap, get_in, removed, put_in, entries_of_pairs}
 use Rattle.mig_model.specs.Names.{without}
-use Rattle.mig_model.specs.Treat.{on_entries}
-use Rattle.mig_model.specs.Function.{rename, add, const_tree, Const, act_on}
+use Rattle.mig_model.specs.Plain.{on_entries}
+use Rattle.mig_small.specs.Function.{rename, add, act_on}
+use Rattle.mig_model.specs.Const.{const_tree, Const}
 
 pub map_without : (name : List ℕ) (t : Plain) → IsMap t → IsMap (removed name t)
 map_without name (plain.map ps) m = tt

@@ -11,7 +11,8 @@ use Rattle.mig_model.specs.Kinds.{IsMap}
 use Rattle.mig_model.specs.Names.{by_bytes}
 use Rattle.mig_model.specs.Template.{same_name}
 use Rattle.mig_model.specs.Inhabits.{Entries}
-use Rattle.mig_model.specs.Treat.{treat, treat_fields, each_entry}
+use Rattle.mig_fold.specs.Fold.{treat, treat_fields}
+use Rattle.mig_model.specs.Plain.{each_entry}
 use Rattle.mig_small.specs.Small.{LeafField, leaf_fields, open_record}
 
 equal_itself : (x : List ℕ) → by_bytes x x ≡ Equal

@@ -6,8 +6,8 @@ use Rattle.mig_model.specs.Place.{place}
 use Rattle.mig_model.specs.Plain.{Plain}
 use Rattle.mig_model.specs.Kinds.{IsMap, removed, put_in}
 use Rattle.mig_model.specs.Family.{Family, body, IsFormed}
-use Rattle.mig_model.specs.Rule.{act, plain_rule}
-use Rattle.mig_model.specs.Chain.{fixed}
+use Rattle.mig_small.specs.Rule.{act, plain_rule}
+use Rattle.mig_small.specs.Chain.{fixed}
 use Rattle.mig_model.specs.Place.{Place}
 use Rattle.mig_small.specs.Small.{Small, LeafField, open_record, family_with, rule_of, chain_of, IsKept, Ascend}
 use Rattle.mig_lift.specs.declared.fault.VersionKind.{VersionKind}

@@ -6,10 +6,11 @@ use Rattle.mig_model.specs.declared.form.Form.TheVariants as F
 use Rattle.mig_model.specs.Plain.{Plain}
 use Rattle.mig_model.specs.Kinds.{IsMap, get_in, removed, put_in}
 use Rattle.mig_model.specs.Template.{is_of_form}
-use Rattle.mig_model.specs.Treat.{on_entries}
-use Rattle.mig_model.specs.Function as model
-use Rattle.mig_model.specs.Function.{Const, const_kind, const_tree, rename, add, act_on}
-use Rattle.mig_model.specs.Rule.{act}
+use Rattle.mig_model.specs.Plain.{on_entries}
+use Rattle.mig_model.specs.Const as model
+use Rattle.mig_model.specs.Const.{Const, const_kind, const_tree}
+use Rattle.mig_small.specs.Function.{rename, add, act_on}
+use Rattle.mig_small.specs.Rule.{act}
 use Rattle.mig_json.proofs.Edits.{removed_json, put_json}
 use Rattle.mig_lift.proofs.Found.{got_json}
 use Rattle.mig_nbt.proofs.Spelled.{removed_spelled, put_spelled, got_spelled}

@@ -7,7 +7,8 @@ use Rattle.mig_model.specs.Plain.{Plain}
 use Rattle.mig_model.specs.Kinds.{get_in, put_in, removed}
 use Rattle.mig_model.specs.Family.{Family}
 use Rattle.mig_model.specs.Place.{Place, place}
-use Rattle.mig_model.specs.Chain.{Chain, last_version, floor_family, fixed}
+use Rattle.mig_model.specs.Version.{last_version}
+use Rattle.mig_small.specs.Chain.{Chain, floor_family, fixed}
 use Rattle.mig_json.specs.Decode.{decode_json}
 use Rattle.mig_json.specs.Writing.{json_text}
 use Rattle.mig_nbt.specs.Reading.{save_at}

@@ -1,6 +1,6 @@
 -- A migrator: a chain and a target.
 use Rattle.std.specs.Prelude.{ℕ, ◌≤◌}
-use Rattle.mig_model.specs.Chain.{last_version}
+use Rattle.mig_model.specs.Version.{last_version}
 use Rattle.mig_small.specs.Small.{Small}
 
 pub record Setting : Type 0 where

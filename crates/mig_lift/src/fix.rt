@@ -1,10 +1,10 @@
 ghost use Rattle.std.specs.Prelude.{◌≡◌, OnOk};
 ghost use Rattle.mig_tree.specs.View.{plain_of};
 ghost use Rattle.mig_model.specs.Kinds.{IsMap, removed};
-ghost use Rattle.mig_model.specs.Treat.{on_entries};
-ghost use Rattle.mig_model.specs.Function as model;
-ghost use Rattle.mig_model.specs.Function.{act_on};
-ghost use Rattle.mig_model.specs.Rule.{act};
+ghost use Rattle.mig_model.specs.Plain.{on_entries};
+ghost use Rattle.mig_small.specs.Function as model;
+ghost use Rattle.mig_small.specs.Function.{act_on};
+ghost use Rattle.mig_small.specs.Rule.{act};
 ghost use Rattle.mig_leaf.specs.View.{const_of};
 ghost use Rattle.mig_small.specs.Small.{rule_of, open_record};
 

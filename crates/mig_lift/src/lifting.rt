@@ -2,7 +2,7 @@ ghost use Rattle.std.specs.Prelude.{◌≡◌, ◌≤◌, ◌&&◌, IfOk, OnOk, 
 ghost use Rattle.mig_tree.specs.View.{plain_of};
 ghost use Rattle.mig_model.specs.declared.form.Form.TheVariants.{Nbt, Json};
 ghost use Rattle.mig_model.specs.Kinds.{IsMap};
-ghost use Rattle.mig_model.specs.Rule.{act};
+ghost use Rattle.mig_small.specs.Rule.{act};
 ghost use Rattle.mig_small.specs.Small.{chain_of, rule_of, open_record};
 ghost use Rattle.mig_small.specs.View.{field_of};
 ghost use Rattle.mig_lift.specs.Lift.{lift, lift_tree};

@@ -1,3 +1,4 @@
 pub mod Ascending
 pub mod Searches
 pub mod Rising
+pub mod Loops

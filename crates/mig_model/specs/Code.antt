@@ -1,9 +1,10 @@
 -- Plain trees as stored values, so that a struct may have them as its value.
-use Rattle.std.specs.Prelude.{ℕ, List, ◌≡◌, refl}
-use Rattle.std.specs.Coded.{Coded, coded_ℕ, coded_ℤ, coded_bool, coded_list, coded×}
+use Rattle.std.specs.Prelude.{ℕ, List, ◌≡◌, refl, Option, Some, None}
+use Rattle.std.specs.Coded.{Coded, code_by, coded_ℕ, coded_ℤ, coded_bool, coded_list, coded_option, coded×}
 use Rattle.std.proofs.Common.{ap, ap₂, arith}
 use base.Stored.{Gv, gnil, gnum, gcons, num}
 use Rattle.mig_model.specs.Plain.{Plain, byte, short, int, long, float, double, text, bytes, ints, longs, list, map, null, boolean, whole, Trees, no_tree, tree, Pairs, no_pair, pair}
+use Rattle.mig_model.specs.Place.{PlaceStep, Place, named, index}
 
 abbrev bs : Coded (List ℕ)
 bs = coded_list coded_ℕ
@@ -87,3 +88,24 @@ coded_items = coded_list coded_plain
 
 abbrev pub coded_entries : Coded (List (List ℕ × Plain))
 coded_entries = coded_list (coded× bs coded_plain)
+
+abbrev step_parts : PlaceStep → Option (List ℕ) × ℕ
+step_parts (named n) = (Some n, 0)
+step_parts (index i) = (None, i)
+
+abbrev step_from : Option (List ℕ) × ℕ → PlaceStep
+step_from p = from p.0 p.1
+  where
+    from : Option (List ℕ) → ℕ → PlaceStep
+    from (Some n) i = named n
+    from None i = index i
+
+pub step_again : (s : PlaceStep) → step_from (step_parts s) ≡ s
+step_again (named n) = refl
+step_again (index i) = refl
+
+abbrev pub coded_step : Coded PlaceStep
+coded_step = code_by (Option (List ℕ) × ℕ) (coded× (coded_option bs) coded_ℕ) step_parts step_from step_again
+
+abbrev pub coded_place : Coded Place
+coded_place = coded_list coded_step

@@ -1,17 +1,18 @@
--- Families of named templates: when one is formed, and the family after a fix.
-use Rattle.std.specs.Prelude.{◌≡◌, ℕ, suc, max, List, [], ◌∷◌, length, map, Bool, true, false, not, ◌&&◌, ◌||◌, Option, Some, None, is_some, unwrap_or, nat_lt, if◌then◌else◌}
+-- Families of named templates: when one is formed.
+use Rattle.std.specs.Prelude.{◌≡◌, ℕ, suc, max, List, [], ◌∷◌, length, map, Bool, true, false, not, ◌&&◌, ◌||◌, Option, Some, None, is_some, unwrap_or, option_and_then, nat_lt, if◌then◌else◌}
 use Rattle.std.specs.List.{list_any}
 use Rattle.mig_model.specs.declared.form.Form.{Form}
-use Rattle.mig_model.specs.declared.form.Form.TheVariants as F
 use Rattle.mig_model.specs.declared.kind.Kind.{Kind}
 use Rattle.mig_model.specs.declared.kind.Kind.TheVariants as K
-use Rattle.mig_model.specs.Template.{Template, leaf, any, list, point, rec, sum, Fields, no_field, field, Choice, no_choice, choice, Cases, no_case, case, same_name, is_of_form, is_leaf, has_kind}
-use Rattle.mig_model.specs.Function.{is_field, is_in_choice}
-use Rattle.mig_model.specs.Rule.{Rule, target}
+use Rattle.mig_model.specs.declared.presence.Presence.{Presence}
+use Rattle.mig_model.specs.declared.presence.Presence.TheVariants.{Must, May}
+use Rattle.mig_model.specs.Template.{Template, leaf, any, list, point, rec, sum, Fields, no_field, field, Choice, no_choice, choice, Cases, no_case, case, same_name, is_of_form, is_nbt, is_leaf, has_kind}
+use Rattle.mig_model.specs.Fields.{find_field, is_field, is_in_choice}
 
+-- the version stands under a path of names from the root
 pub record Family : Type 0 where
   pub form : Form
-  pub version : List ℕ
+  pub version : List (List ℕ)
   pub types : List (List ℕ × Template)
   pub root : List ℕ
 
@@ -40,7 +41,7 @@ abbrev mutual
 
   pub any_in_choice : (Template → Bool) → Choice → Bool
   any_in_choice p no_choice = false
-  any_in_choice p (choice tag cs) = any_in_cases p cs
+  any_in_choice p (choice tag cs kept) = any_in_cases p cs
 
   pub any_in_cases : (Template → Bool) → Cases → Bool
   any_in_cases p no_case = false
@@ -60,7 +61,7 @@ abbrev mutual
 
   pub choice_nests : Choice → ℕ
   choice_nests no_choice = 0
-  choice_nests (choice tag cs) = cases_nest cs
+  choice_nests (choice tag cs kept) = cases_nest cs
 
   pub cases_nest : Cases → ℕ
   cases_nest no_case = 0
@@ -103,10 +104,6 @@ abbrev pub is_mixed : Family → Template → Bool
 is_mixed f (list V) = not (is_one (has_kind_in f V) kinds)
 is_mixed f V = false
 
-abbrev pub is_nbt : Form → Bool
-is_nbt F.Nbt = true
-is_nbt F.Json = false
-
 abbrev pub is_record : Template → Bool
 is_record (rec fs c r) = true
 is_record V = false
@@ -115,13 +112,46 @@ abbrev pub uses_name : List ℕ → Template → Bool
 uses_name x (rec fs c r) = is_field x fs || is_in_choice x c
 uses_name x V = false
 
+-- the template of a Must field
+abbrev pub of_must : Option (Presence × Template) → Option Template
+of_must (Some (Must, V)) = Some V
+of_must o = None
+
+-- the template of the common Must field of that name
+abbrev pub must_field : List ℕ → Template → Option Template
+must_field x (rec fs c r) = of_must (find_field x fs)
+must_field x V = None
+
+-- a point's named body; any other template itself
+abbrev pub behind_point : Family → Template → Template
+behind_point f (point n) = body f n
+behind_point f V = V
+
+-- the last template of the way of the version path from V: each name but the last is a common Must field, behind whose point, if it has one, the way goes on; none where one isn't
+abbrev pub way_end : Family → List (List ℕ) → Template → Option Template
+way_end f (x ∷ (y ∷ xs)) V = option_and_then (λ W. way_end f (y ∷ xs) (behind_point f W)) (must_field x V)
+way_end f xs V = Some V
+
+abbrev pub version_record : Family → Option Template
+version_record f = way_end f f.version (body f f.root)
+
+abbrev pub last_name : List (List ℕ) → List ℕ
+last_name [] = []
+last_name (x ∷ []) = x
+last_name (x ∷ (y ∷ xs)) = last_name (y ∷ xs)
+
+-- the test holds of what is there
+abbrev pub holds : {A : Type 0} → (A → Bool) → Option A → Bool
+holds p None = false
+holds p (Some a) = p a
+
 abbrev pub has_twice : List (List ℕ) → Bool
 has_twice [] = false
 has_twice (n ∷ ns) = list_any (same_name n) ns || has_twice ns
 
--- the ten faults of a family
+-- the eleven faults of a family
 pub data Flaw : Type 0 where
-  twice_named too_many too_deep wrong_kind unknown_name unguarded sum_overlap mixed_list root_not_record version_name_used : Flaw
+  twice_named too_many too_deep wrong_kind unknown_name unguarded sum_overlap mixed_list root_not_record version_path version_name_used : Flaw
 
 abbrev pub any_type : (Template → Bool) → Family → Bool
 any_type p f = list_any (λ t. p t.1) f.types
@@ -136,10 +166,11 @@ has_flaw unguarded f = any_type (λ V. is_point V || any_inside has_point_side V
 has_flaw sum_overlap f = any_type (any_inside (sides_overlap f.form)) f
 has_flaw mixed_list f = is_nbt f.form && any_type (any_inside (is_mixed f)) f
 has_flaw root_not_record f = not (is_record (body f f.root))
-has_flaw version_name_used f = uses_name f.version (body f f.root)
+has_flaw version_path f = not (holds is_record (version_record f))
+has_flaw version_name_used f = holds (uses_name (last_name f.version)) (version_record f)
 
 abbrev pub flaws : List Flaw
-flaws = twice_named ∷ too_many ∷ too_deep ∷ wrong_kind ∷ unknown_name ∷ unguarded ∷ sum_overlap ∷ mixed_list ∷ root_not_record ∷ version_name_used ∷ []
+flaws = twice_named ∷ too_many ∷ too_deep ∷ wrong_kind ∷ unknown_name ∷ unguarded ∷ sum_overlap ∷ mixed_list ∷ root_not_record ∷ version_path ∷ version_name_used ∷ []
 
 -- the first fault in the order of the ten, or none where the family is formed
 abbrev pub first_of : List Flaw → Family → Option Flaw
@@ -152,18 +183,7 @@ first_flaw f = first_of flaws f
 abbrev pub IsFormed : Family → Type 0
 IsFormed f = first_flaw f ≡ None
 
--- the named types after a rule: those that it fits have the new template
-abbrev pub types_after : Rule → List (List ℕ × Template) → List (List ℕ × Template)
-types_after r ts = map (λ t. (t.0, unwrap_or (target r t.0 t.1) t.1)) ts
-
-abbrev pub after_rule : Rule → Family → Family
-after_rule r f = record { form = f.form; version = f.version; types = types_after r f.types; root = f.root }
-
--- the rule fits some named type
-abbrev pub fits_some : Rule → Family → Bool
-fits_some r f = list_any (λ t. is_some (target r t.0 t.1)) f.types
-
--- form, version name, root, the set of names and each body are equal; the order of the types doesn't count
+-- form, version path, root, the set of names and each body are equal; the order of the types doesn't count
 pub record IsSame (f g : Family) : Type 0 where
   pub form : f.form ≡ g.form
   pub version : f.version ≡ g.version

@@ -10,7 +10,7 @@ use Rattle.mig_model.specs.Plain as plain
 use Rattle.mig_model.specs.Plain.{Plain}
 use Rattle.mig_model.specs.Kinds.{kind_of}
 use Rattle.mig_model.specs.Template.{same_kind, is_leaf}
-use Rattle.mig_model.specs.Function.{Const, const_kind, const_tree}
+use Rattle.mig_model.specs.Const.{Const, const_kind, const_tree}
 
 -- a leaf function; a table has pairs of a text and what stands for it
 pub data LeafFn : Type 0 where

@@ -5,11 +5,10 @@ pub mod Kinds
 pub mod Keeps
 pub mod Template
 pub mod Inhabits
-pub mod Treat
-pub mod Function
-pub mod Rule
+pub mod Const
+pub mod Fields
 pub mod Family
-pub mod Chain
 pub mod Place
+pub mod Version
 pub mod Ascends
 pub mod Leaf

@@ -1,5 +1,5 @@
 -- The first wrong place of a tree at a template, one level at a time: w says it of a tree at a point.
-use Rattle.std.specs.Prelude.{ℕ, zero, suc, List, [], ◌∷◌, Bool, false, not, ◌||◌, Option, Some, None, is_some, option_map, if◌then◌else◌}
+use Rattle.std.specs.Prelude.{ℕ, zero, suc, List, [], ◌∷◌, Bool, false, not, ◌&&◌, ◌||◌, Option, Some, None, is_some, option_map, if◌then◌else◌}
 use Rattle.std.specs.Ordering.{is_lt}
 use Rattle.mig_model.specs.declared.form.Form.{Form}
 use Rattle.mig_model.specs.declared.rest.Rest.{Rest}
@@ -8,7 +8,7 @@ use Rattle.mig_model.specs.Plain.{Plain, items, entries}
 use Rattle.mig_model.specs.Kinds.{kind_of}
 use Rattle.mig_model.specs.Names.{by_bytes, found}
 use Rattle.mig_model.specs.Template.{Template, leaf, any, list, point, rec, sum, Fields, no_field, field, Choice, no_choice, choice, Cases, no_case, case, same_name, same_kind, has_kind, is_must, is_open}
-use Rattle.mig_model.specs.Inhabits.{Entries, has_tag, depth}
+use Rattle.mig_model.specs.Inhabits.{Entries, is_in_form, has_tag, has_text, depth}
 use Rattle.mig_model.specs.Family.{Family, body}
 
 pub data PlaceStep : Type 0 where
@@ -72,10 +72,14 @@ abbrev pub is_literal : List ℕ → Cases → Entries → Bool
 is_literal tag no_case es = false
 is_literal tag (case l fs cs) es = has_tag tag l es || is_literal tag cs es
 
--- of a map's pairs and the Must fields, the first name that is wrong; the tag's name where it is no literal
+-- the tag is a case's literal, or another text, which is kept
+abbrev pub is_tagged : List ℕ → Cases → Bool → Entries → Bool
+is_tagged tag cs kept es = is_literal tag cs es || (kept && has_text tag es)
+
+-- of a map's pairs and the Must fields, the first name that is wrong; the tag's name where the tag is
 abbrev pub wrong_map : Fields → Choice → Entries → Wrong → Option Place
 wrong_map fs no_choice es bad = under (sooner bad (missing fs es))
-wrong_map fs (choice tag cs) es bad = if is_literal tag cs es then under (sooner bad (sooner (missing fs es) (missing_in_case tag cs es))) else Some (named tag ∷ [])
+wrong_map fs (choice tag cs kept) es bad = if is_tagged tag cs kept es then under (sooner bad (sooner (missing fs es) (missing_in_case tag cs es))) else Some (named tag ∷ [])
 
 abbrev pub unless : Bool → Option Place
 unless b = if b then None else Some []
@@ -83,7 +87,7 @@ unless b = if b then None else Some []
 abbrev mutual
   pub wrong : Form → (List ℕ → Plain → Option Place) → Template → Plain → Option Place
   wrong form w (leaf k) t = unless (same_kind (kind_of t) k)
-  wrong form w any t = None
+  wrong form w any t = unless (is_in_form form t)
   wrong form w (list V) t = within_list (wrong_item (wrong form w V) 0) t
   wrong form w (point n) t = w n t
   wrong form w (rec fs c r) t = within_map (λ es. wrong_map fs c es (wrong_entry (wrong_choice form w c (wrong_fields form w fs) r es) es)) t
@@ -95,10 +99,10 @@ abbrev mutual
 
   pub wrong_choice : Form → (List ℕ → Plain → Option Place) → Choice → ((List ℕ → Plain → Option Place) → List ℕ → Plain → Option Place) → Rest → Entries → List ℕ → Plain → Option Place
   wrong_choice form w no_choice common r es n t = common (λ m u. unless (is_open r)) n t
-  wrong_choice form w (choice tag cs) common r es n t = if same_name n tag then None else common (wrong_cases form w tag cs r es) n t
+  wrong_choice form w (choice tag cs kept) common r es n t = if same_name n tag then None else common (wrong_cases form w tag cs r es) n t
 
   pub wrong_cases : Form → (List ℕ → Plain → Option Place) → List ℕ → Cases → Rest → Entries → List ℕ → Plain → Option Place
-  wrong_cases form w tag no_case r es n t = unless (is_open r)
+  wrong_cases form w tag no_case r es n t = None
   wrong_cases form w tag (case l fs cs) r es n t = if has_tag tag l es then wrong_fields form w fs (λ m u. unless (is_open r)) n t else wrong_cases form w tag cs r es n t
 
 abbrev pub place_within : Form → (List ℕ → Template) → ℕ → List ℕ → Plain → Option Place

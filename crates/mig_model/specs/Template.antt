@@ -25,10 +25,10 @@ mutual
     no_field : Fields
     field : List ℕ → Presence → Template → Fields → Fields
 
-  -- the tag's name, and for each literal that it may have the fields of that case
+  -- the tag's name, for each literal that it may have the fields of that case, and whether a tag that is no literal is kept
   pub data Choice : Type 0 where
     no_choice : Choice
-    choice : List ℕ → Cases → Choice
+    choice : List ℕ → Cases → Bool → Choice
 
   pub data Cases : Type 0 where
     no_case : Cases
@@ -92,6 +92,10 @@ is_of_form F.Json K.Bool = true
 is_of_form F.Json K.Whole = true
 is_of_form F.Json k = false
 
+abbrev pub is_nbt : Form → Bool
+is_nbt F.Nbt = true
+is_nbt F.Json = false
+
 -- every kind but List and Map
 abbrev pub is_leaf : Kind → Bool
 is_leaf K.List = false
@@ -130,7 +134,7 @@ abbrev mutual
 
   pub choice_has_point : Choice → Bool
   choice_has_point no_choice = false
-  choice_has_point (choice tag cs) = cases_have_point cs
+  choice_has_point (choice tag cs kept) = cases_have_point cs
 
   pub cases_have_point : Cases → Bool
   cases_have_point no_case = false

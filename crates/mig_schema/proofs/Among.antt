@@ -3,7 +3,7 @@ use Rattle.std.proofs.Common.{◌≡◌, ℕ, List, sym, ap, ◌∙◌}
 use Rattle.std.specs.Prelude.{is_some}
 use Rattle.std.specs.BTreeMap.{is_at}
 use Rattle.std.specs.Map.{keys_of, lookup}
-use Rattle.mig_model.specs.Function.{is_field}
+use Rattle.mig_model.specs.Fields.{is_field}
 use Rattle.mig_model.specs.Names.{by_bytes}
 use Rattle.mig_model.specs.Template as model
 use Rattle.mig_model.specs.Template.{fields_of}

@@ -3,7 +3,8 @@ use Rattle.std.specs.Prelude.{ℕ, List, ◌≡◌, refl, Bool, true, false}
 use Rattle.std.specs.Coded.{Coded, code_by, coded_list, coded_bool, coded×}
 use Rattle.mig_model.specs.declared.form.Form.{Form}
 use Rattle.mig_model.specs.declared.form.Form.TheVariants as F
-use Rattle.mig_model.specs.Family.{Family, is_nbt}
+use Rattle.mig_model.specs.Family.{Family}
+use Rattle.mig_model.specs.Template.{is_nbt}
 use Rattle.mig_template.specs.Code.{coded_name, coded_template}
 use Rattle.mig_schema.specs.Types.{Named, family_of}
 

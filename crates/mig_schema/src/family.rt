@@ -1,12 +1,13 @@
-ghost use Rattle.std.specs.Prelude.{◌≡◌, ◌↔◌, IsTrue, length, option_map, IfOk, IfErr};
+ghost use Rattle.std.specs.Prelude.{◌≡◌, ◌<◌, ◌↔◌, Some, IsTrue, length, option_map, IfOk, IfErr};
 ghost use Rattle.std.specs.List.{slice_get};
-ghost use Rattle.std.specs.Map.{keys_of};
-ghost use Rattle.mig_model.specs.Family.{IsFormed, IsSame, find_type, is_named, first_flaw};
+ghost use Rattle.std.specs.Map.{keys_of, values_of};
+ghost use Rattle.mig_model.specs.Family.{IsFormed, IsSame, find_type, is_named, is_unknown, any_inside, first_flaw};
 ghost use Rattle.mig_template.specs.View.{template_of};
 ghost use Rattle.mig_schema.specs.Types.{named_all, family_of, AllKept};
 ghost use Rattle.mig_schema.specs.Fault.{IsFault};
 ghost use Rattle.mig_schema.specs.Reach.{Reaches};
 
+use crate::checks::Check;
 use crate::named::NamedTypes;
 use crate::parts::Parts;
 use crate::{Form, Memory, Name, SchemaFault, Template};
@@ -100,6 +101,14 @@ impl Family {
         self.parts.types().name_at(place)
     }
 
+    /// The template at the place in the order of declaration.
+    pub fn body_at(&self, place: usize) -> &Template
+        requires { place < length self.now.types }
+        ensures { slice_get (values_of self.now.types) place ≡ Some (template_of result.now) }
+    {
+        self.parts.types().body_at(place)
+    }
+
     /// Whether the name is a named type.
     pub fn is_named(&self, name: &Name) -> bool
         ensures { result ≡ is_named self.now name.now }
@@ -112,6 +121,13 @@ impl Family {
         ensures { option_map (λ t. template_of t.now) result ≡ find_type name.now self.now.types }
     {
         self.parts.get(name)
+    }
+
+    /// Whether a point in the template is to a name that is no named type.
+    pub fn lacks_type_in(&self, template: &Template) -> bool
+        ensures { result ≡ any_inside (is_unknown self.now) (template_of template.now) }
+    {
+        self.parts.is_inside(Check::Unknown, template)
     }
 
     /// An equal family, with its types in the same order.

@@ -2,7 +2,7 @@ ghost use Rattle.std.specs.Prelude.{◌≡◌, ◌||◌, false, length, option_m
 ghost use Rattle.std.specs.List.{slice_get};
 ghost use Rattle.std.specs.Map.{keys_of};
 ghost use Rattle.mig_model.specs.Family.{find_type, is_named, any_type, is_record, uses_name, has_flaw, first_of, first_flaw};
-ghost use Rattle.mig_model.specs.Function.{is_field, is_in_choice};
+ghost use Rattle.mig_model.specs.Fields.{is_field, is_in_choice};
 ghost use Rattle.mig_model.specs.Template.{fields_of, cases_of};
 ghost use Rattle.mig_model.specs.Template as plain;
 ghost use Rattle.mig_model.specs.Family as flaws;

@@ -3,9 +3,11 @@ use Rattle.std.proofs.Common.{◌≡◌, ℕ, ◌<◌, ◌≤◌, List, [], ◌�
 use Rattle.std.specs.Prelude.{IsTrue, ◌||◌, is_some, option_map, unwrap_or, if◌then◌else◌}
 use Rattle.mig_model.specs.declared.form.Form.{Form}
 use Rattle.mig_model.specs.Template.{Template, leaf, rec, Fields, no_field, field, same_name}
-use Rattle.mig_model.specs.Rule.{target}
-use Rattle.mig_model.specs.Family.{Family, IsFormed, IsSame, after_rule, fits_some, find_type}
-use Rattle.mig_model.specs.Chain.{Chain, ChainStep, schema, fix, last_version, IsAccepted}
+use Rattle.mig_small.specs.Rule.{target}
+use Rattle.mig_model.specs.Family.{Family, IsFormed, IsSame, find_type}
+use Rattle.mig_small.specs.Rule.{after_rule, fits_some}
+use Rattle.mig_model.specs.Version.{last_version}
+use Rattle.mig_small.specs.Chain.{Chain, ChainStep, schema, fix, IsAccepted}
 use Rattle.mig_small.specs.Small.{Small, LeafField, leaf_fields, open_record, chain_of}
 use Rattle.mig_small.specs.Pieces.{SmallEdits, family_of}
 use Rattle.mig_small.specs.Lifted.{lifted}

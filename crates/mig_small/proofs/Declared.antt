@@ -1,7 +1,7 @@
 -- What a piece is, by the one declaration that it is.
 use Rattle.std.proofs.Common.{◌≡◌, ◌≤◌, ℕ, ℤ, pos, List, [], ◌∷◌, true, false, Option, refl, sym, ap, subst, ◌∙◌}
 use Rattle.mig_model.specs.declared.form.Form.{Form}
-use Rattle.mig_model.specs.Chain.{last_version}
+use Rattle.mig_model.specs.Version.{last_version}
 use Rattle.mig_parse.specs.DeclSyntax as decl
 use Rattle.mig_parse.specs.DeclSyntax.{DeclSyntax}
 use Rattle.mig_parse.specs.TemplateSyntax.{FieldsSyntax, no_field, field, FieldSyntax, fields_of, record_of, no_choice}

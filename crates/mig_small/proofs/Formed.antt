@@ -16,9 +16,10 @@ use Rattle.mig_model.specs.declared.presence.Presence.{Presence}
 use Rattle.mig_model.specs.declared.presence.Presence.TheVariants.{Must}
 use Rattle.mig_model.specs.Names.{by_bytes}
 use Rattle.mig_model.specs.Template.{Template, leaf, any, field, Field, field_list, fields_of, same_name, is_of_form, is_leaf}
-use Rattle.mig_model.specs.Function.{is_field}
+use Rattle.mig_model.specs.Fields.{is_field}
 use Rattle.mig_model.specs.Family as family
-use Rattle.mig_model.specs.Family.{Family, Flaw, any_in_fields, fields_nest, is_wrong_leaf, is_unknown, has_point_side, sides_overlap, is_mixed, has_flaw, first_of, flaws, IsFormed, body, uses_name, is_record, is_nbt, any_type, any_inside}
+use Rattle.mig_model.specs.Family.{Family, Flaw, any_in_fields, fields_nest, is_wrong_leaf, is_unknown, has_point_side, sides_overlap, is_mixed, has_flaw, first_of, flaws, IsFormed, body, uses_name, is_record, any_type, any_inside}
+use Rattle.mig_model.specs.Template.{is_nbt}
 use Rattle.mig_small.specs.Small.{LeafField, leaf_fields, open_record}
 use Rattle.mig_small.specs.Pieces.{FitsForm, family_of}
 use Rattle.mig_small.specs.Lifted.{has_field, leaf_kind}

@@ -12,8 +12,10 @@ use Rattle.mig_model.specs.declared.presence.Presence.{Presence}
 use Rattle.mig_model.specs.declared.presence.Presence.TheVariants.{Must}
 use Rattle.mig_model.specs.Names.{by_bytes}
 use Rattle.mig_model.specs.Template.{Template, leaf, rec, Fields, Field, fields_of, no_choice}
-use Rattle.mig_model.specs.Function.{Const, const_kind, rename, add, new_fields, find_field, with_field, without_field, is_free, if_so}
-use Rattle.mig_model.specs.Rule.{Rule, function, seq, target}
+use Rattle.mig_model.specs.Const.{Const, const_kind}
+use Rattle.mig_small.specs.Function.{rename, add, new_fields, if_so}
+use Rattle.mig_model.specs.Fields.{find_field, with_field, without_field, is_free}
+use Rattle.mig_small.specs.Rule.{Rule, function, seq, target}
 use Rattle.mig_small.specs.Small.{LeafField, leaf_fields, open_record}
 use Rattle.mig_small.specs.Pieces.{SmallEdits}
 use Rattle.mig_small.specs.Lifted.{leaf_kind, has_field, without_leaf, with_leaf, renamed, extended, lifted}

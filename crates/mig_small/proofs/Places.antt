@@ -14,7 +14,7 @@ use Rattle.std.proofs.lemmas.Bool.{false≢true}
 use Rattle.std_collections.proofs.Seek.{AboveFirst, found_at, missing_at, by_ordering, insert_entry_err, sorted_insert}
 use Rattle.std_collections.proofs.Entries.{lookup-none}
 use Rattle.mig_model.specs.declared.kind.Kind.{Kind}
-use Rattle.mig_model.specs.Function.{if_so}
+use Rattle.mig_model.specs.Fields.{if_so}
 use Rattle.mig_small.specs.Small.{LeafField, Ascend}
 use Rattle.mig_small.specs.Lifted.{leaf_kind, has_field, without_leaf, with_leaf, renamed, extended}
 use Rattle.mig_model.specs.Names.{by_bytes}

@@ -4,7 +4,7 @@ use Rattle.std.specs.List.{AllByRecursion}
 use Rattle.std.specs.Str.{chars}
 use Rattle.mig_model.specs.declared.kind.Kind.{Kind}
 use Rattle.mig_model.specs.declared.kind.Kind.TheVariants as K
-use Rattle.mig_model.specs.Function as model
+use Rattle.mig_model.specs.Const as model
 use Rattle.mig_token.specs.Token.{Tok, text}
 use Rattle.mig_token.specs.Lexical as lexical
 use Rattle.mig_token.specs.Lexical.{IsStringChar, IsToken, AreTokens}

@@ -6,7 +6,7 @@ use Rattle.std.specs.declared.result.Result.{Result}
 use Rattle.mig_lex.proofs.Cutting.{one_cut}
 use Rattle.mig_small.specs.declared.fault.SmallFault.{SmallFault}
 use Rattle.mig_small.specs.declared.fault.SmallFault.TheVariants.{NotYet, Memory}
-use Rattle.mig_model.specs.Chain.{Chain, IsAccepted}
+use Rattle.mig_small.specs.Chain.{Chain, IsAccepted}
 use Rattle.mig_token.specs.Lexical.{IsWhite}
 use Rattle.mig_token.specs.Cuts.{Cuts}
 use Rattle.mig_parse.specs.TemplateSyntax as template

@@ -1,3 +1,6 @@
+pub mod Function
+pub mod Rule
+pub mod Chain
 pub mod Small
 pub mod View
 pub mod SmallText

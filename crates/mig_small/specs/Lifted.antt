@@ -4,7 +4,8 @@ use Rattle.std.specs.BTreeMap.{insert_entry, is_at}
 use Rattle.std.specs.Map.{lookup, remove_entry}
 use Rattle.mig_model.specs.declared.kind.Kind.{Kind}
 use Rattle.mig_model.specs.Names.{by_bytes}
-use Rattle.mig_model.specs.Function.{const_kind, if_so}
+use Rattle.mig_model.specs.Const.{const_kind}
+use Rattle.mig_model.specs.Fields.{if_so}
 use Rattle.mig_small.specs.Small.{LeafField}
 use Rattle.mig_small.specs.Pieces.{SmallEdits}
 

@@ -4,9 +4,9 @@ use Rattle.std.specs.declared.result.Result.{Result}
 use Rattle.std.specs.declared.result.Result.TheVariants.{Ok, Err}
 use Rattle.mig_model.specs.declared.form.Form.{Form}
 use Rattle.mig_model.specs.Template.{is_of_form, is_leaf}
-use Rattle.mig_model.specs.Function.{Const, const_kind}
+use Rattle.mig_model.specs.Const.{Const, const_kind}
 use Rattle.mig_model.specs.Family.{Family, IsFormed}
-use Rattle.mig_model.specs.Chain.{last_version}
+use Rattle.mig_model.specs.Version.{last_version}
 use Rattle.mig_token.specs.Token.{Tok}
 use Rattle.mig_token.specs.Lexical.{AreTokens}
 use Rattle.mig_parse.specs.TemplateSyntax as template

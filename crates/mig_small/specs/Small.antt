@@ -10,10 +10,11 @@ use Rattle.mig_model.specs.declared.presence.Presence.TheVariants.{Must}
 use Rattle.mig_model.specs.declared.rest.Rest.TheVariants.{Open}
 use Rattle.mig_model.specs.Names.{by_bytes}
 use Rattle.mig_model.specs.Template.{Template, leaf, rec, Fields, no_field, field, no_choice, is_of_form}
-use Rattle.mig_model.specs.Function.{Const, text, rename, add, const_kind}
-use Rattle.mig_model.specs.Rule.{Rule, function, seq}
+use Rattle.mig_model.specs.Const.{Const, text, const_kind}
+use Rattle.mig_small.specs.Function.{rename, add}
+use Rattle.mig_small.specs.Rule.{Rule, function, seq}
 use Rattle.mig_model.specs.Family.{Family}
-use Rattle.mig_model.specs.Chain.{Chain, schema, fix, IsAccepted}
+use Rattle.mig_small.specs.Chain.{Chain, schema, fix, IsAccepted}
 
 -- a field that has to be there and is a leaf: its name and its kind
 abbrev pub LeafField : Type 0

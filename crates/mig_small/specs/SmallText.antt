@@ -5,10 +5,12 @@ use Rattle.std.specs.List.{AllByRecursion}
 use Rattle.mig_model.specs.declared.form.Form.{Form}
 use Rattle.mig_model.specs.declared.kind.Kind.TheVariants as K
 use Rattle.mig_model.specs.Template.{is_of_form}
-use Rattle.mig_model.specs.Function as model
-use Rattle.mig_model.specs.Function.{Const, const_kind, rename, add}
-use Rattle.mig_model.specs.Rule.{function, seq}
-use Rattle.mig_model.specs.Chain.{Chain, schema, fix, last_version, IsAccepted}
+use Rattle.mig_model.specs.Const as model
+use Rattle.mig_model.specs.Const.{Const, const_kind}
+use Rattle.mig_small.specs.Function.{rename, add}
+use Rattle.mig_small.specs.Rule.{function, seq}
+use Rattle.mig_model.specs.Version.{last_version}
+use Rattle.mig_small.specs.Chain.{Chain, schema, fix, IsAccepted}
 use Rattle.mig_token.specs.Token.{Tok}
 use Rattle.mig_token.specs.Lexical.{IsWhite, AreTokens}
 use Rattle.mig_token.specs.Cuts.{Cuts}

@@ -1,5 +1,5 @@
 ghost use Rattle.std.specs.Prelude.{◌≡◌, MatchOption};
-ghost use Rattle.mig_model.specs.Function as model;
+ghost use Rattle.mig_model.specs.Const as model;
 ghost use Rattle.mig_leaf.specs.View.{const_of};
 ghost use Rattle.mig_parse.specs.RuleSyntax as rule;
 ghost use Rattle.mig_parse.specs.RuleView as syntax;

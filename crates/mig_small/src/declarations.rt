@@ -1,5 +1,5 @@
 ghost use Rattle.std.specs.Prelude.{◌≡◌, ◌≤◌, ℕ, pos, map, MatchOption, Some, None};
-ghost use Rattle.mig_model.specs.Chain.{last_version};
+ghost use Rattle.mig_model.specs.Version.{last_version};
 ghost use Rattle.mig_parse.specs.DeclSyntax as decl;
 ghost use Rattle.mig_parse.specs.DeclView.{decl_of};
 ghost use Rattle.mig_small.specs.SmallText.{IsMissing};

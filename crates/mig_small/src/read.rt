@@ -1,5 +1,5 @@
 ghost use Rattle.std.specs.Prelude.{◌≡◌, Err, IfOk};
-ghost use Rattle.mig_model.specs.Chain.{Chain};
+ghost use Rattle.mig_small.specs.Chain.{Chain};
 ghost use Rattle.mig_small.specs.Small.{chain_of};
 ghost use Rattle.mig_small.specs.SmallText.{IsSmallText};
 ghost use Rattle.mig_small.specs.Pieces.{Finds};

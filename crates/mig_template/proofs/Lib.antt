@@ -6,3 +6,4 @@ pub mod OneOrder
 pub mod Smaller
 pub mod Sorted
 pub mod Views
+pub mod Retyped

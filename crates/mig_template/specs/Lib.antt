@@ -6,3 +6,4 @@ pub mod Fault
 pub mod View
 pub mod Falls
 pub mod KindSet
+pub mod Retyped

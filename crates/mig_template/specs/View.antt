@@ -5,7 +5,7 @@ use Rattle.mig_template.specs.Parts.{record_of}
 use Rattle.mig_template.specs.declared.template.Template.{Template}
 use Rattle.mig_template.specs.declared.template.Template.TheVariants as V
 use Rattle.mig_template.specs.declared.fields.Field.{Field}
-use Rattle.std.specs.Prelude.{ℕ, List, map, Option, Some, None}
+use Rattle.std.specs.Prelude.{ℕ, List, map, Option, Some, None, option_map}
 use Rattle.std.proofs.Common.{Vec}
 use Rattle.mig_template.specs.declared.record.Case.{Case}
 
@@ -30,3 +30,7 @@ given_case g = (g.0, map field_of g.1.items)
 abbrev pub given_choice : {A : Type 0} → Option (List ℕ × Vec (List ℕ × Vec Field A) A) → Option parts.Cases
 given_choice None = None
 given_choice (Some c) = Some (c.0, map given_case c.1.items)
+
+-- a template for each field, or none
+abbrev pub given_templates : {A : Type 0} → Vec (Option Template) A → List (Option model.Template)
+given_templates v = map (option_map template_of) v.items

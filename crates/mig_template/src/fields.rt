@@ -5,6 +5,8 @@ ghost use Rattle.std_collections.specs.Layout.BTreeMap.{seek};
 ghost use Rattle.mig_model.specs.Names.{by_bytes};
 ghost use Rattle.mig_model.specs.Ascends.{Ascends};
 ghost use Rattle.mig_template.specs.Parts.{found_field, is_among};
+ghost use Rattle.mig_template.specs.Kept.{IsKept};
+ghost use Rattle.mig_template.specs.Retyped.{retyped, with_templates};
 ghost use Rattle.mig_template.specs.View.{template_of, field_of};
 
 use crate::{Memory, Name, Presence, Template};
@@ -55,6 +57,24 @@ impl Model for Fields {
 }
 
 impl Field {
+    /// The field with another template, or a copy of it.
+    fn with_template(&self, alloc: Global, template: Option<Template>) -> Result<Field, Memory>
+        ensures field { IfOk result (λ f. field_of f ≡ retyped (option_map template_of template) (field_of self.now)) }
+        ensures keep { IfOk result (λ f. IsKept (template_of f.template)) }
+    {
+        let name = self.name.copy(alloc)?;
+        let template = match template {
+            Some(template) => template,
+            None => self.template.copy(alloc)?,
+        };
+        template.keeps();
+        Ok(Field {
+            name,
+            presence: self.presence,
+            template,
+        })
+    }
+
     /// Whether the two are equal.
     #[cycle(same)]
     pub fn same(&self, other: &Field) -> bool
@@ -84,6 +104,13 @@ impl Fields {
         ensures keep { FieldListKept self.now }
     {
         self.list.as_slice()
+    }
+
+    /// Does nothing. Its contract tells what all fields keep.
+    pub(crate) fn keeps(&self)
+        ensures { FieldListKept self.now }
+    {
+        let _fields = self.as_slice();
     }
 
     /// Gives the fields up.
@@ -133,6 +160,24 @@ impl Fields {
             }
         }
         false
+    }
+
+    /// The fields with other templates, in their order. A field without one gets a copy of its own.
+    pub fn with_templates(
+        &self,
+        alloc: Global,
+        templates: Vec<Option<Template>>,
+    ) -> Result<Fields, Memory>
+        requires { length templates.items ≡ length self.now }
+        ensures { IfOk result (λ fs. fs ≡ with_templates (map (option_map template_of) templates.items) self.now) }
+    {
+        let fields = self.as_slice();
+        let mut list = Vec::new(alloc);
+        for template in templates {
+            let field = &fields[list.len()];
+            list.push(field.with_template(alloc, template)?)?;
+        }
+        Ok(Fields::new(list))
     }
 
     /// Equal fields.

@@ -1,11 +1,14 @@
-ghost use Rattle.std.specs.Prelude.{◌≡◌, ◌↔◌, Some, false, map, option_map, IfOk, IfErr, IsTrue};
-ghost use Rattle.mig_template.specs.Parts.{IsRecordOf, is_twice_named, has_no_case};
+ghost use Rattle.std.specs.Prelude.{◌≡◌, ◌↔◌, Some, false, length, map, option_map, IfOk, IfErr, IsTrue};
+ghost use Rattle.mig_template.specs.Parts.{IsRecordOf, is_twice_named, has_no_case, choice_of};
 ghost use Rattle.mig_template.specs.Fault.{IsFault};
-ghost use Rattle.mig_template.specs.View.{field_of, case_of, given_choice};
+ghost use Rattle.mig_model.specs.Template.{cases_of};
+ghost use Rattle.mig_template.specs.Kept.{FieldListKept, CasesKept, ChoiceKept};
+ghost use Rattle.mig_template.specs.Retyped.{HavePlaces, with_templates, choice_with, record_with, cases_or_none};
+ghost use Rattle.mig_template.specs.View.{template_of, field_of, case_of, given_choice, given_templates};
 
 use crate::cases::order_cases;
 use crate::ordering::order_fields;
-use crate::{Field, Fields, Memory, Name, RecordFault, Rest};
+use crate::{Field, Fields, Memory, Name, RecordFault, Rest, Template};
 use std::alloc::Global;
 use std::marker::Model;
 
@@ -83,6 +86,22 @@ impl Model for Record {
 }
 
 impl Case {
+    /// The case with other templates, in the order of its fields. A field without one gets a copy of its own.
+    fn with_templates(
+        &self,
+        alloc: Global,
+        templates: Vec<Option<Template>>,
+    ) -> Result<Case, Memory>
+        requires { length templates.items ≡ length self.now.fields }
+        ensures case { IfOk result (λ c. case_of c ≡ (self.now.literal, with_templates (given_templates templates) self.now.fields)) }
+        ensures keep { IfOk result (λ c. FieldListKept c.fields) }
+    {
+        let literal = self.literal.copy(alloc)?;
+        let fields = self.fields.with_templates(alloc, templates)?;
+        fields.keeps();
+        Ok(Case { literal, fields })
+    }
+
     /// Whether the two are equal.
     #[cycle(same)]
     pub fn same(&self, other: &Case) -> bool
@@ -132,6 +151,26 @@ impl Choice {
         false
     }
 
+    /// The choice with other templates, for each case in order a list as for its fields.
+    fn with_templates(
+        &self,
+        alloc: Global,
+        templates: Vec<Vec<Option<Template>>>,
+    ) -> Result<Choice, Memory>
+        requires { HavePlaces (map given_templates templates.items) self.now.1 }
+        ensures choice { IfOk result (λ c. c ≡ choice_with (map given_templates templates.items) self.now) }
+        ensures keep { IfOk result (λ c. CasesKept (cases_of c.1)) }
+    {
+        let tag = self.tag().copy(alloc)?;
+        let given = self.cases();
+        let mut cases = Vec::new(alloc);
+        for list in templates {
+            let case = &given[cases.len()];
+            cases.push(case.with_templates(alloc, list)?)?;
+        }
+        Ok(Choice { tag, cases })
+    }
+
     /// An equal choice.
     #[cycle(copy)]
     pub fn copy(&self, alloc: Global) -> Result<Choice, Memory>
@@ -172,6 +211,44 @@ impl Choice {
 }
 
 impl Record {
+    /// The record with other templates: a list as for its common fields, and for each case in order one as for the case's. It copies the names, and the templates of fields without another.
+    pub fn with_templates(
+        &self,
+        alloc: Global,
+        common: Vec<Option<Template>>,
+        cased: Vec<Vec<Option<Template>>>,
+    ) -> Result<Record, Memory>
+        requires common { length common.items ≡ length self.now.fields }
+        requires cased { HavePlaces (map given_templates cased.items) (cases_or_none self.now.choice) }
+        ensures { IfOk result (λ r. r ≡ record_with (given_templates common) (map given_templates cased.items) self.now) }
+    {
+        self.keeps();
+        let fields = self.fields().with_templates(alloc, common)?;
+        fields.keeps();
+        let choice = self.choice_with(alloc, cased)?;
+        Ok(Record {
+            fields,
+            choice,
+            rest: self.rest(),
+        })
+    }
+
+    /// The choice with other templates, if there is one.
+    fn choice_with(
+        &self,
+        alloc: Global,
+        templates: Vec<Vec<Option<Template>>>,
+    ) -> Result<Option<Choice>, Memory>
+        requires { HavePlaces (map given_templates templates.items) (cases_or_none self.now.choice) }
+        ensures choice { IfOk result (λ c. c ≡ option_map (choice_with (map given_templates templates.items)) self.now.choice) }
+        ensures keep { IfOk result (λ c. ChoiceKept (choice_of c)) }
+    {
+        match self.choice() {
+            Some(choice) => Ok(Some(choice.with_templates(alloc, templates)?)),
+            None => Ok(None),
+        }
+    }
+
     /// The record of these parts, which may come in any order. The rules are this project's own.
     pub fn new(
         alloc: Global,

@@ -1,12 +1,12 @@
 -- When a value is one of a template: one level at a time, with what is asked of a node's body left to a parameter.
-use Rattle.std.specs.Prelude.{◌≡◌, ℕ, zero, suc, List, Bool, true, false, ◌&&◌, ◌||◌, Option, Some, None, MatchBool, IsTrue, if◌then◌else◌}
+use Rattle.std.specs.Prelude.{◌≡◌, ℕ, zero, suc, List, Bool, true, false, not, ◌&&◌, ◌||◌, Option, Some, None, MatchBool, IsTrue, if◌then◌else◌}
 use Rattle.mig_model.specs.declared.form.Form.{Form}
 use Rattle.mig_model.specs.declared.rest.Rest.{Rest}
 use Rattle.mig_model.specs.Plain.{Plain}
 use Rattle.mig_model.specs.Kinds.{kind_of}
 use Rattle.mig_model.specs.Template as template
 use Rattle.mig_model.specs.Template.{Template, Fields, no_field, field, Choice, no_choice, choice, Cases, no_case, case, same_name, is_open}
-use Rattle.mig_model.specs.Function.{is_field}
+use Rattle.mig_model.specs.Fields.{is_field}
 use Rattle.mig_model.specs.Inhabits.{Entries, has_musts, is_in_form}
 use Rattle.mig_value.specs.Typed.{Typed, atom, list, left, right, rec, point, Items, no_item, item, Slots, no_slot, slot, Tag, out, out_slots, typed_size}
 
@@ -44,20 +44,20 @@ abbrev pub has_literal : List ℕ → Cases → Bool
 has_literal l no_case = false
 has_literal l (case m fs cs) = same_name l m || has_literal l cs
 
--- the tag stands there as the choice has it
+-- the tag stands there as the choice has it: a case's literal, or another text where that is kept
 abbrev pub TagFits : Choice → Option Tag → Type 0
 TagFits no_choice None = Unit {0}
-TagFits (choice tag cs) (Some t) = (t.0 ≡ tag) × IsTrue (has_literal t.1 cs)
+TagFits (choice tag cs kept) (Some t) = (t.0 ≡ tag) × IsTrue (has_literal t.1 cs || kept)
 TagFits c t = ⊥
 
--- the Must fields of the case with this literal are there
+-- the Must fields of the case with this literal, if there is one, are there
 abbrev pub has_case_musts : List ℕ → Cases → Entries → Bool
-has_case_musts l no_case es = false
+has_case_musts l no_case es = true
 has_case_musts l (case m fs cs) es = if same_name l m then has_musts fs es else has_case_musts l cs es
 
 -- the Must fields of the case that the tag names are there
 abbrev pub has_cased_musts : Choice → Option Tag → Entries → Bool
-has_cased_musts (choice tag cs) (Some t) es = has_case_musts t.1 cs es
+has_cased_musts (choice tag cs kept) (Some t) es = has_case_musts t.1 cs es
 has_cased_musts c t es = true
 
 -- the name is a field of the case with this literal
@@ -67,12 +67,17 @@ is_field_of_case n l (case m fs cs) = if same_name l m then is_field n fs else i
 
 -- the name is the tag, or a field of the case that it names
 abbrev pub is_cased : List ℕ → Choice → Option Tag → Bool
-is_cased n (choice tag cs) (Some t) = same_name n tag || is_field_of_case n t.1 cs
+is_cased n (choice tag cs kept) (Some t) = same_name n tag || is_field_of_case n t.1 cs
 is_cased n c t = false
 
--- an unknown name isn't one of the record's, and stands only where the rest is open
+-- the tag's text is no case's literal
+abbrev pub has_unknown_tag : Choice → Option Tag → Bool
+has_unknown_tag (choice tag cs kept) (Some t) = not (has_literal t.1 cs)
+has_unknown_tag c t = false
+
+-- an unknown name isn't one of the record's, and stands only where the rest is open or the tag's text is no case's literal
 abbrev pub IsUnknown : (Typed → Type 0) → Fields → Choice → Option Tag → Rest → List ℕ → Typed → Type 0
-IsUnknown U fs c tag r n v = (is_field n fs || is_cased n c tag ≡ false) × IsTrue (is_open r) × U v
+IsUnknown U fs c tag r n v = (is_field n fs || is_cased n c tag ≡ false) × IsTrue (is_open r || has_unknown_tag c tag) × U v
 
 -- a value is one of a template, where U says what may stand at `any` and at unknown names, and P what the body of a node at a point has to be
 abbrev mutual
@@ -94,7 +99,7 @@ abbrev mutual
   FieldsFit U P (field x p V fs) n v = MatchBool (same_name n x) (Fits U P V v) (FieldsFit U P fs n v)
 
   pub ChoiceFits : (Typed → Type 0) → (List ℕ → Typed → Type 0) → Choice → Option Tag → List ℕ → Typed → Type 0
-  ChoiceFits U P (choice tag cs) (Some t) n v = CasesFit U P t.1 cs n v
+  ChoiceFits U P (choice tag cs kept) (Some t) n v = CasesFit U P t.1 cs n v
   ChoiceFits U P c tag n v = ⊥
 
   -- a value under a name that is a field of the case with this literal

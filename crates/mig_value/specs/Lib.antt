@@ -8,3 +8,4 @@ pub mod Falls
 pub mod Leaf
 pub mod Law
 pub mod Places
+pub mod Nodes

@@ -1,7 +1,7 @@
 use Rattle.std.proofs.Common.{rules, ◌≡◌, ◌∙◌, true, false, map, sym, ap}
 use Rattle.std.specs.Prelude.{◌&&◌}
 use Rattle.std.specs.Map.{keys_of}
-use Rattle.mig_model.specs.Function.{if_so}
+use Rattle.mig_model.specs.Fields.{if_so}
 use Rattle.mig_model.specs.Template.{is_open}
 use Rattle.mig_action.specs.Edits.{has, without}
 use Rattle.mig_template.specs.Parts.{is_among}

@@ -1,7 +1,7 @@
 use Rattle.std.proofs.Common.{rules, ◌≡◌, ◌∙◌, ◌++◌, ◌∷◌, [], Some, true, false, map, sym, ap}
 use Rattle.std.specs.Prelude.{◌&&◌, not}
 use Rattle.std.specs.Map.{keys_of}
-use Rattle.mig_model.specs.Function.{if_so}
+use Rattle.mig_model.specs.Fields.{if_so}
 use Rattle.mig_action.specs.Edits.{under, has, without, moved}
 use Rattle.mig_action.specs.NewRecord.{Slot}
 use Rattle.mig_template.specs.Parts.{is_among}

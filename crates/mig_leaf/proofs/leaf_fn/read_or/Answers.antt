@@ -2,7 +2,7 @@ use Rattle.std.proofs.Common.{◌≡◌, sym, ◌∙◌, Some, rules}
 use Rattle.std.specs.Prelude.{FitsSigned}
 use Rattle.std.specs.Int.{w64}
 use Rattle.std.proofs.lemmas.Int.{to_z-of_z}
-use Rattle.mig_model.specs.Function.{const_kind}
+use Rattle.mig_model.specs.Const.{const_kind}
 use Rattle.mig_model.specs.Leaf.{clamped, spelled}
 use Rattle.mig_leaf.specs.View.{const_of}
 use Rattle.mig_leaf.proofs.Numbers.{read_number}

@@ -1,7 +1,7 @@
 use Rattle.std.proofs.Common.{◌≡◌, ◌&&◌, nat_lt, nat_le, cond, None, Ok, Err, sym, ap, subst, refl, ◌∙◌, arith}
 use Rattle.mig_tree.specs.View.{plain_of}
 use Rattle.mig_model.specs.Kinds.{IsMap, removed, put_in}
-use Rattle.mig_model.specs.Rule.{act}
+use Rattle.mig_small.specs.Rule.{act}
 use Rattle.mig_model.specs.Place.{place}
 use Rattle.mig_model.specs.Family.{IsFormed}
 use Rattle.mig_small.specs.Small.{rule_of, chain_of, open_record, family_with, Ascend}

@@ -1,5 +1,5 @@
 use Rattle.std.proofs.Common.{◌≡◌, map, drop}
-use Rattle.mig_model.specs.Function.{is_case_field}
+use Rattle.mig_model.specs.Fields.{is_case_field}
 use Rattle.mig_model.specs.Template.{cases_of}
 use Rattle.mig_template.specs.View.{case_of}
 use Rattle.mig_schema.proofs.parts.is_in_choice.Given as goal

@@ -1,7 +1,7 @@
 use Rattle.std.proofs.Common.{◌≡◌, ◌≤◌, ℕ, pos, Err, subst, to_z, of_z, rules}
 use Rattle.std.specs.Int.{w128}
 use Rattle.std.proofs.lemmas.Result.{err_from_is_err_and}
-use Rattle.mig_model.specs.Chain.{last_version}
+use Rattle.mig_model.specs.Version.{last_version}
 use Rattle.mig_parse.specs.DeclView.{decl_of}
 use Rattle.mig_small.specs.Pieces.{Finds, IsDeclared, AreEdits, IsFix}
 use Rattle.mig_small.specs.Views.{edits_of}

@@ -1,6 +1,6 @@
 use Rattle.std.proofs.Common.{◌≡◌, ◌≤◌, ℕ, pos, false, subst, to_z, of_z, rules}
 use Rattle.std.specs.Int.{w128}
-use Rattle.mig_model.specs.Chain.{last_version}
+use Rattle.mig_model.specs.Version.{last_version}
 use Rattle.std.proofs.lemmas.Result.{err_from_is_err_and}
 use Rattle.mig_parse.specs.DeclSyntax as decl
 use Rattle.mig_parse.specs.DeclView.{decl_of}

@@ -1,10 +1,13 @@
 -- Rules and fixes: the new template, the action on trees, and plain traversal.
-use Rattle.std.specs.Prelude.{ℕ, List, Option, Some, None, unwrap_or, option_map, option_and_then}
+use Rattle.std.specs.Prelude.{ℕ, List, map, Bool, Option, Some, None, is_some, unwrap_or, option_map, option_and_then}
+use Rattle.std.specs.List.{list_any}
+use Rattle.mig_model.specs.Family.{Family}
 use Rattle.mig_model.specs.declared.form.Form.{Form}
 use Rattle.mig_model.specs.Plain.{Plain}
 use Rattle.mig_model.specs.Template.{Template, rec}
-use Rattle.mig_model.specs.Treat.{on_entries, fold}
-use Rattle.mig_model.specs.Function.{Function, new_fields, act_on}
+use Rattle.mig_model.specs.Plain.{on_entries}
+use Rattle.mig_fold.specs.Fold.{fold, none_skipped}
+use Rattle.mig_small.specs.Function.{Function, new_fields, act_on}
 
 -- a rule is applied to a part of the body of a named type
 pub data Rule : Type 0 where
@@ -32,4 +35,15 @@ act_if (Some W) r n V t = act r n V t
 
 -- a rule fix: first each tree at a point, and then the tree itself where the rule fits the body
 abbrev pub plain_rule : Rule → Form → (List ℕ → Template) → List ℕ → Plain → Plain
-plain_rule r form body n t = fold form body (λ m u. act_if (target r m (body m)) r m (body m) u) n t
+plain_rule r form body n t = fold form body none_skipped (λ m u. act_if (target r m (body m)) r m (body m) u) n t
+
+-- the named types after a rule: those that it fits have the new template
+abbrev pub types_after : Rule → List (List ℕ × Template) → List (List ℕ × Template)
+types_after r ts = map (λ t. (t.0, unwrap_or (target r t.0 t.1) t.1)) ts
+
+abbrev pub after_rule : Rule → Family → Family
+after_rule r f = record { form = f.form; version = f.version; types = types_after r f.types; root = f.root }
+
+-- the rule fits some named type
+abbrev pub fits_some : Rule → Family → Bool
+fits_some r f = list_any (λ t. is_some (target r t.0 t.1)) f.types

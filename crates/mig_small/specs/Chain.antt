@@ -2,12 +2,9 @@
 use Rattle.std.specs.Prelude.{◌≡◌, ℕ, ◌<◌, ◌≤◌, List, [], ◌∷◌, Option, Some, None, unwrap_or, IsTrue, ◌&&◌, nat_lt, nat_le, if◌then◌else◌}
 use Rattle.mig_model.specs.declared.form.Form.{Form}
 use Rattle.mig_model.specs.Plain.{Plain}
-use Rattle.mig_model.specs.Rule.{Rule, plain_rule}
-use Rattle.mig_model.specs.Family.{Family, body, IsFormed, IsSame, fits_some, after_rule}
-
--- the greatest version
-abbrev pub last_version : ℕ
-last_version = 2147483647
+use Rattle.mig_model.specs.Version.{last_version}
+use Rattle.mig_small.specs.Rule.{Rule, plain_rule, fits_some, after_rule}
+use Rattle.mig_model.specs.Family.{Family, body, IsFormed, IsSame}
 
 -- a schema with its version, and its family where the text gives one; a fix with its number
 pub data ChainStep : Type 0 where
@@ -16,7 +13,7 @@ pub data ChainStep : Type 0 where
 
 pub record Chain : Type 0 where
   pub form : Form
-  pub version : List ℕ
+  pub version : List (List ℕ)
   pub missing : Option ℕ
   pub steps : List ChainStep
 
@@ -26,13 +23,13 @@ next_schema [] = None
 next_schema (schema v f ∷ steps) = Some v
 next_schema (fix n x ∷ steps) = next_schema steps
 
--- a given family is formed, of the chain's form and version name, and the same as the one that the fixes give
-abbrev pub Matches : Form → List ℕ → Family → Option Family → Type 0
+-- a given family is formed, of the chain's form and version path, and the same as the one that the fixes give
+abbrev pub Matches : Form → List (List ℕ) → Family → Option Family → Type 0
 Matches form version now None = Unit {0}
 Matches form version now (Some f) = (f.form ≡ form) × (f.version ≡ version) × IsFormed f × IsSame f now
 
 -- the steps behind a schema of version v, after which the family is now
-abbrev pub Follows : Form → List ℕ → ℕ → Family → List ChainStep → Type 0
+abbrev pub Follows : Form → List (List ℕ) → ℕ → Family → List ChainStep → Type 0
 Follows form version v now [] = Unit {0}
 Follows form version v now (schema w f ∷ steps) = (v < w) × (w ≤ last_version) × Matches form version now f × Follows form version w (unwrap_or f now) steps
 Follows form version v now (fix n r ∷ steps) = (next_schema steps ≡ Some n) × IsTrue (fits_some r now) × IsFormed (after_rule r now) × Follows form version v (after_rule r now) steps

@@ -1,24 +1,10 @@
 -- What is done to the trees at points, one level at a time, and the traversal that does it bottom up.
-use Rattle.std.specs.Prelude.{ℕ, zero, suc, List, map, if◌then◌else◌}
+use Rattle.std.specs.Prelude.{ℕ, zero, suc, List, Bool, false, if◌then◌else◌}
 use Rattle.mig_model.specs.declared.form.Form.{Form}
-use Rattle.mig_model.specs.Plain as plain
-use Rattle.mig_model.specs.Plain.{Plain, trees_of, items, pairs_of, entries}
+use Rattle.mig_model.specs.Plain.{Plain, on_items, on_entries, each_entry}
 use Rattle.mig_model.specs.Kinds.{kind_of}
 use Rattle.mig_model.specs.Template.{Template, leaf, any, list, point, rec, sum, Fields, no_field, field, Choice, no_choice, choice, Cases, no_case, case, same_name, has_kind}
 use Rattle.mig_model.specs.Inhabits.{Entries, has_tag, depth}
-
--- f is done to the items of a list; any other tree stays
-abbrev pub on_items : (Plain → Plain) → Plain → Plain
-on_items f (plain.list ts) = plain.list (trees_of (map f (items ts)))
-on_items f t = t
-
--- f is done to the pairs of a map; any other tree stays
-abbrev pub on_entries : (Entries → Entries) → Plain → Plain
-on_entries f (plain.map ps) = plain.map (pairs_of (f (entries ps)))
-on_entries f t = t
-
-abbrev pub each_entry : (List ℕ → Plain → Plain) → Entries → Entries
-each_entry f es = map (λ e. (e.0, f e.0 e.1)) es
 
 -- h is done to each tree that stands at a point of the template, and all else stays
 abbrev mutual
@@ -38,18 +24,25 @@ abbrev mutual
   -- the tag itself stays
   pub treat_choice : Form → (List ℕ → Plain → Plain) → Choice → ((List ℕ → Plain → Plain) → List ℕ → Plain → Plain) → Entries → List ℕ → Plain → Plain
   treat_choice form h no_choice common es n t = common (λ m u. u) n t
-  treat_choice form h (choice tag cs) common es n t = if same_name n tag then t else common (treat_cases form h tag cs es) n t
+  treat_choice form h (choice tag cs kept) common es n t = if same_name n tag then t else common (treat_cases form h tag cs es) n t
 
   -- the fields of the case that the map's tag names
   pub treat_cases : Form → (List ℕ → Plain → Plain) → List ℕ → Cases → Entries → List ℕ → Plain → Plain
   treat_cases form h tag no_case es n t = t
   treat_cases form h tag (case l fs cs) es n t = if has_tag tag l es then treat_fields form h fs (λ m u. u) n t else treat_cases form h tag cs es n t
 
--- first the trees at points, each by the arm of its name, and then the tree itself, with at most k points on each way down
-abbrev pub fold_within : Form → (List ℕ → Template) → (List ℕ → Plain → Plain) → ℕ → List ℕ → Plain → Plain
-fold_within form body arm zero n t = t
-fold_within form body arm (suc k) n t = arm n (treat form (fold_within form body arm k) (body n) t)
+-- a skipped name's tree stays
+abbrev pub unless_skipped : (List ℕ → Bool) → (List ℕ → Plain → Plain) → List ℕ → Plain → Plain
+unless_skipped skipped h n t = if skipped n then t else h n t
 
--- the bottom-up traversal of a tree at the named type n
-abbrev pub fold : Form → (List ℕ → Template) → (List ℕ → Plain → Plain) → List ℕ → Plain → Plain
-fold form body arm n t = fold_within form body arm (suc (depth t)) n t
+-- first the trees at points, each by the arm of its name, and then the tree itself, with at most k points on each way down
+abbrev pub fold_within : Form → (List ℕ → Template) → (List ℕ → Bool) → (List ℕ → Plain → Plain) → ℕ → List ℕ → Plain → Plain
+fold_within form bodies skipped arm zero n t = t
+fold_within form bodies skipped arm (suc k) n t = arm n (treat form (unless_skipped skipped (fold_within form bodies skipped arm k)) (bodies n) t)
+
+-- the bottom-up traversal of a tree at the named type n. A tree at a skipped name is left unopened
+abbrev pub fold : Form → (List ℕ → Template) → (List ℕ → Bool) → (List ℕ → Plain → Plain) → List ℕ → Plain → Plain
+fold form bodies skipped arm n t = fold_within form bodies skipped arm (suc (depth t)) n t
+
+abbrev pub none_skipped : List ℕ → Bool
+none_skipped n = false

@@ -21,7 +21,7 @@ use Rattle.mig_value.specs.Typed.{in_order}
 use Rattle.mig_value.specs.Parts.{RecordParts, IsRecord}
 use Rattle.mig_value.proofs.Orders.{in_order_named}
 use Rattle.mig_laws.proofs.Tests.{split_or, same_name_is, same_name_itself}
-use Rattle.mig_codec.specs.Nodes.{pairs_in}
+use Rattle.mig_codec.specs.Lists.{pairs_in}
 use Rattle.std.specs.Ordering.{is_lt}
 use Rattle.mig_codec.specs.Parted.{IsRow, IsRowRead, is_tagged, tag_names}
 use Rattle.mig_codec.specs.Row.{Row, Belongs, common, tagged, cased, unknown, is_tag, belongs, missing_in}
@@ -233,4 +233,5 @@ row_end f row es p g named is none =
       cased_musts = ap (has_musts (fields_of row.cased)) g.cases ∙ musts_there is_cased row es row.cased (cased_there f row is) both.1;
       tag = g.tag;
       pairs = pairs_end f row es p g named;
+      counted = g.counted;
     }

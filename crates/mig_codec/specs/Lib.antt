@@ -1,4 +1,4 @@
-pub mod Nodes
+pub mod Lists
 pub mod Row
 pub mod RowView
 pub mod Parted

@@ -29,7 +29,7 @@ use Rattle.mig_codec.proofs.Belonging.{common_found, cased_found}
 use Rattle.mig_codec.proofs.Forms.{item_form, entry_form}
 use Rattle.mig_codec.proofs.Gathered.{GatheredItems, Gathered}
 use Rattle.mig_codec.proofs.ItemLoop.{one_more_item, item_wrong}
-use Rattle.mig_codec.proofs.Loops.{in_hand, all_behind}
+use Rattle.mig_model.proofs.Loops.{in_hand, all_behind}
 use Rattle.mig_codec.proofs.Measures.{less_work, less_tree, item_within, entry_within, rank_body, rank_side, width}
 use Rattle.mig_codec.proofs.PartsOf.{body_part, left_part, right_part}
 use Rattle.mig_codec.proofs.RowEnd.{record_end, row_end}

@@ -7,8 +7,9 @@ use Rattle.mig_template.proofs.Alike.{map_append}
 use Rattle.mig_value.specs.Typed.{out, out_items, out_slots, items_of, slots_of}
 use Rattle.mig_value.specs.View.{typed_of, slot_of}
 use Rattle.mig_value.proofs.Orders.{in_order_named}
-use Rattle.mig_codec.specs.Nodes.{pairs_in}
-use Rattle.mig_codec.proofs.Loops.{in_hand, item_smaller, slot_smaller, item_counted, slot_counted, item_more, slot_more, items_count, slots_count}
+use Rattle.mig_codec.specs.Lists.{pairs_in}
+use Rattle.mig_model.proofs.Loops.{in_hand}
+use Rattle.mig_codec.proofs.Loops.{item_smaller, slot_smaller, item_counted, slot_counted, item_more, slot_more, items_count, slots_count}
 use Rattle.mig_codec.proofs.Pairs.{has_order}
 use Rattle.mig_codec.proofs.writing.+write.Goals as goal
 

@@ -7,6 +7,4 @@ pub mod Exact
 pub mod Formed
 pub mod Laws
 pub mod Reading
-pub mod Treats
-pub mod Folds
 mod Examples

@@ -8,7 +8,7 @@ use Rattle.mig_model.specs.Plain.{Plain, trees_of, items, pairs_of, entries}
 use Rattle.mig_model.specs.Kinds.{kind_of, items_of_trees, entries_of_pairs}
 use Rattle.mig_model.specs.Names.{found}
 use Rattle.mig_model.specs.Template.{Template, leaf, any, list, point, rec, sum, Fields, no_field, field, Choice, no_choice, choice, Cases, no_case, case, same_name, has_kind, is_must}
-use Rattle.mig_model.specs.Inhabits.{Entries, EachItem, IsListOf, EachEntry, IsMapOf, is_text, has_tag, has_musts, has_case, is_complete, Unknown, Fits, FieldsFit, ChoiceFits, CasesFit}
+use Rattle.mig_model.specs.Inhabits.{Entries, EachItem, IsListOf, EachEntry, IsMapOf, is_text, is_some_text, has_tag, has_musts, has_case, is_complete, Unknown, Fits, FieldsFit, ChoiceFits, CasesFit}
 use Rattle.mig_model.specs.Plain.{on_items, on_entries, each_entry}
 use Rattle.mig_fold.specs.Fold.{treat, treat_fields, treat_choice, treat_cases}
 use Rattle.mig_laws.specs.Sides.{SumsApart, FieldsApart, ChoiceApart, CasesApart}
@@ -61,21 +61,24 @@ there_each g x es = ap is_some (found_each g x es) ∙ kept (found x es)
     kept None = refl
     kept (Some t) = refl
 
--- a tag that stays is the same literal as before
-pub tag_each : (g : Treatment) (tag l : List ℕ) (es : Entries) → ((t : Plain) → g tag t ≡ t) → has_tag tag l (each_entry g es) ≡ has_tag tag l es
-tag_each g tag l es stays = ap (is_text l) (found_each g tag es ∙ kept (found tag es))
+-- a tag that stays is what it was before
+pub tag_found : (g : Treatment) (tag : List ℕ) (es : Entries) → ((t : Plain) → g tag t ≡ t) → found tag (each_entry g es) ≡ found tag es
+tag_found g tag es stays = found_each g tag es ∙ same (found tag es)
   where
-    kept : (o : Option Plain) → option_map (g tag) o ≡ o
-    kept None = refl
-    kept (Some t) = ap Some (stays t)
+    same : (o : Option Plain) → option_map (g tag) o ≡ o
+    same None = refl
+    same (Some t) = ap Some (stays t)
+
+pub tag_each : (g : Treatment) (tag l : List ℕ) (es : Entries) → ((t : Plain) → g tag t ≡ t) → has_tag tag l (each_entry g es) ≡ has_tag tag l es
+tag_each g tag l es stays = ap (is_text l) (tag_found g tag es stays)
 
 musts_each : (g : Treatment) (fs : Fields) (es : Entries) → has_musts fs (each_entry g es) ≡ has_musts fs es
 musts_each g no_field es = refl
 musts_each g (field x p V fs) es = ap₂ (λ a b. (not (is_must p) || a) && b) (there_each g x es) (musts_each g fs es)
 
-case_each : (g : Treatment) (tag : List ℕ) (cs : Cases) (es : Entries) → ((l : List ℕ) → has_tag tag l (each_entry g es) ≡ has_tag tag l es) → has_case tag cs (each_entry g es) ≡ has_case tag cs es
-case_each g tag no_case es e = refl
-case_each g tag (case l fs cs) es e = rw (e l) (if_agree (has_tag tag l es) (musts_each g fs es) (case_each g tag cs es e))
+case_each : (g : Treatment) (tag : List ℕ) (cs : Cases) (kept : Bool) (es : Entries) → found tag (each_entry g es) ≡ found tag es → has_case tag cs kept (each_entry g es) ≡ has_case tag cs kept es
+case_each g tag no_case kept es e = ap (λ o. kept && is_some_text o) e
+case_each g tag (case l fs cs) kept es e = rw (ap (is_text l) e) (if_agree (has_tag tag l es) (musts_each g fs es) (case_each g tag cs kept es e))
 
 module _ (form : Form) where
   -- what is done at a sum, by the tree's kind
@@ -89,8 +92,8 @@ module _ (form : Form) where
   treat_neither h V W t e f = rw (e, f) refl
 
   -- the tag stays
-  pub tag_stays : (h : Treatment) (tag : List ℕ) (cs : Cases) (common : Treatment → Treatment) (es : Entries) (t : Plain) → treat_choice form h (choice tag cs) common es tag t ≡ t
-  tag_stays h tag cs common es t = rw (same_name_itself tag) refl
+  pub tag_stays : (h : Treatment) (tag : List ℕ) (cs : Cases) (kept : Bool) (common : Treatment → Treatment) (es : Entries) (t : Plain) → treat_choice form h (choice tag cs kept) common es tag t ≡ t
+  tag_stays h tag cs kept common es t = rw (same_name_itself tag) refl
 
   -- the pairs of a record, treated
   abbrev pub treated : Treatment → Fields → Choice → Entries → Entries
@@ -150,9 +153,9 @@ module _ (form : Form) where
     choice_chain : (h g : Treatment) (c : Choice) (k k' kk : Treatment → Treatment) → ((o o' oo : Treatment) → ((n : List ℕ) (t : Plain) → o' n (o n t) ≡ oo n t) → (n : List ℕ) (t : Plain) → k' o' n (k o n t) ≡ kk oo n t)
         → (es : Entries) (n : List ℕ) (t : Plain) → treat_choice form g c k' (each_entry (treat_choice form h c k es) es) n (treat_choice form h c k es n t) ≡ treat_choice form (chained h g) c kk es n t
     choice_chain h g no_choice k k' kk e es n t = e _ _ _ (λ m u. refl) n t
-    choice_chain h g (choice tag cs) k k' kk e es n t =
-        if_chain (same_name n tag) (λ u. u) (k' (treat_cases form g tag cs (each_entry (treat_choice form h (choice tag cs) k es) es)) n) _ _ _ _ refl
-        (e _ _ _ (cases_chain h g tag cs es (each_entry (treat_choice form h (choice tag cs) k es) es) (λ l. tag_each _ tag l es (λ u. tag_stays h tag cs k es u))) n t)
+    choice_chain h g (choice tag cs kept) k k' kk e es n t =
+        if_chain (same_name n tag) (λ u. u) (k' (treat_cases form g tag cs (each_entry (treat_choice form h (choice tag cs kept) k es) es)) n) _ _ _ _ refl
+        (e _ _ _ (cases_chain h g tag cs es (each_entry (treat_choice form h (choice tag cs kept) k es) es) (λ l. tag_each _ tag l es (λ u. tag_stays h tag cs kept k es u))) n t)
 
     cases_chain : (h g : Treatment) (tag : List ℕ) (cs : Cases) (es es' : Entries) → ((l : List ℕ) → has_tag tag l es' ≡ has_tag tag l es) → (n : List ℕ) (t : Plain)
         → treat_cases form g tag cs es' n (treat_cases form h tag cs es n t) ≡ treat_cases form (chained h g) tag cs es n t
@@ -186,14 +189,14 @@ module _ (form : Form) where
   Alike P h g = (n : List ℕ) (t : Plain) → P n t → h n t ≡ g n t
 
   mutual
-    pub treat_agree : (P : List ℕ → Plain → Type 0) (h g : Treatment) → Alike P h g → (V : Template) → SumsApart form V → (t : Plain) → Fits P V t → treat form h V t ≡ treat form g V t
+    pub treat_agree : (P : List ℕ → Plain → Type 0) (h g : Treatment) → Alike P h g → (V : Template) → SumsApart form V → (t : Plain) → Fits form P V t → treat form h V t ≡ treat form g V t
     treat_agree P h g e (leaf k) a t s = refl
     treat_agree P h g e any a t s = refl
-    treat_agree P h g e (list V) a t s = list_same (Fits P V) (treat form h V) (treat form g V) (treat_agree P h g e V a) t s
+    treat_agree P h g e (list V) a t s = list_same (Fits form P V) (treat form h V) (treat form g V) (treat_agree P h g e V a) t s
     treat_agree P h g e (point n) a t s = e n t s
     treat_agree P h g e (rec fs c r) a t s =
-        map_same (RecordFits P fs c r) (treated form h fs c) (treated form g fs c)
-        (λ es q. each_same _ _ _ (choice_agree P h g e c a.1 (treat_fields form h fs) (treat_fields form g fs) (FieldsFit P fs) (fields_agree P h g e fs a.0) r es) es q.1) t s
+        map_same (RecordFits form P fs c r) (treated form h fs c) (treated form g fs c)
+        (λ es q. each_same _ _ _ (choice_agree P h g e c a.1 (treat_fields form h fs) (treat_fields form g fs) (FieldsFit form P fs) (fields_agree P h g e fs a.0) r es) es q.1) t s
     treat_agree P h g e (sum V W) a t s =
         elim (side_of form P V W t a.0 s) [
           | inl x ↦ treat_left form h V W t x.0 ∙ treat_agree P h g e V a.1 t x.1 ∙ sym (treat_left form g V W t x.0)
@@ -201,19 +204,19 @@ module _ (form : Form) where
         ]
 
     fields_agree : (P : List ℕ → Plain → Type 0) (h g : Treatment) → Alike P h g → (fs : Fields) → FieldsApart form fs
-        → (O : List ℕ → Plain → Type 0) (o o' : Treatment) → Alike O o o' → Alike (FieldsFit P fs O) (treat_fields form h fs o) (treat_fields form g fs o')
+        → (O : List ℕ → Plain → Type 0) (o o' : Treatment) → Alike O o o' → Alike (FieldsFit form P fs O) (treat_fields form h fs o) (treat_fields form g fs o')
     fields_agree P h g e no_field a O o o' eo n t s = eo n t s
     fields_agree P h g e (field x p V fs) a O o o' eo n t s = if_match (same_name n x) _ _ (treat_agree P h g e V a.0 t) (fields_agree P h g e fs a.1 O o o' eo n t) s
 
     choice_agree : (P : List ℕ → Plain → Type 0) (h g : Treatment) → Alike P h g → (c : Choice) → ChoiceApart form c
         → (k k' : Treatment → Treatment) (C : (List ℕ → Plain → Type 0) → List ℕ → Plain → Type 0)
         → ((O : List ℕ → Plain → Type 0) (o o' : Treatment) → Alike O o o' → Alike (C O) (k o) (k' o'))
-        → (r : Rest) (es : Entries) → Alike (ChoiceFits P c C r es) (treat_choice form h c k es) (treat_choice form g c k' es)
+        → (r : Rest) (es : Entries) → Alike (ChoiceFits form P c C r es) (treat_choice form h c k es) (treat_choice form g c k' es)
     choice_agree P h g e no_choice a k k' C ek r es n t s = ek (Unknown r) _ _ (λ m u _. refl) n t s
-    choice_agree P h g e (choice tag cs) a k k' C ek r es n t s = if_match (same_name n tag) _ _ (λ _. refl) (ek (CasesFit P tag cs r es) _ _ (cases_agree P h g e tag cs a r es) n t) s
+    choice_agree P h g e (choice tag cs kept) a k k' C ek r es n t s = if_match (same_name n tag) _ _ (λ _. refl) (ek (CasesFit form P tag cs r es) _ _ (cases_agree P h g e tag cs a r es) n t) s
 
     cases_agree : (P : List ℕ → Plain → Type 0) (h g : Treatment) → Alike P h g → (tag : List ℕ) (cs : Cases) → CasesApart form cs
-        → (r : Rest) (es : Entries) → Alike (CasesFit P tag cs r es) (treat_cases form h tag cs es) (treat_cases form g tag cs es)
+        → (r : Rest) (es : Entries) → Alike (CasesFit form P tag cs r es) (treat_cases form h tag cs es) (treat_cases form g tag cs es)
     cases_agree P h g e tag no_case a r es n t s = refl
     cases_agree P h g e tag (case l fs cs) a r es n t s =
         if_match (has_tag tag l es) _ _ (fields_agree P h g e fs a.0 (Unknown r) _ _ (λ m u _. refl) n t) (cases_agree P h g e tag cs a.1 r es n t) s
@@ -242,43 +245,43 @@ map_fits A B f e t s = absurd s
 module _ (form : Form) where
   complete_treated : (h : Treatment) (fs : Fields) (c : Choice) (k : Treatment → Treatment) (es : Entries) → is_complete fs c (each_entry (treat_choice form h c k es) es) ≡ is_complete fs c es
   complete_treated h fs no_choice k es = musts_each _ fs es
-  complete_treated h fs (choice tag cs) k es = ap₂ ◌&&◌ (musts_each _ fs es) (case_each _ tag cs es (λ l. tag_each _ tag l es (λ u. tag_stays form h tag cs k es u)))
+  complete_treated h fs (choice tag cs kept) k es = ap₂ ◌&&◌ (musts_each _ fs es) (case_each _ tag cs kept es (tag_found _ tag es (λ u. tag_stays form h tag cs kept k es u)))
 
   abbrev pub Makes : (List ℕ → Plain → Type 0) → (List ℕ → Plain → Type 0) → Treatment → Type 0
   Makes P Q h = (n : List ℕ) (t : Plain) → P n t → Q n (h n t)
 
   mutual
-    pub treat_fits : (P Q : List ℕ → Plain → Type 0) (h : Treatment) → Makes P Q h → (V : Template) → SumsApart form V → (t : Plain) → Fits P V t → Fits Q V (treat form h V t)
+    pub treat_fits : (P Q : List ℕ → Plain → Type 0) (h : Treatment) → Makes P Q h → (V : Template) → SumsApart form V → (t : Plain) → Fits form P V t → Fits form Q V (treat form h V t)
     treat_fits P Q h e (leaf k) a t s = s
-    treat_fits P Q h e any a t s = tt
-    treat_fits P Q h e (list V) a t s = list_fits (Fits P V) (Fits Q V) (treat form h V) (treat_fits P Q h e V a) t s
+    treat_fits P Q h e any a t s = s
+    treat_fits P Q h e (list V) a t s = list_fits (Fits form P V) (Fits form Q V) (treat form h V) (treat_fits P Q h e V a) t s
     treat_fits P Q h e (point n) a t s = e n t s
     treat_fits P Q h e (rec fs c r) a t s =
-        map_fits (RecordFits P fs c r) (RecordFits Q fs c r) (treated form h fs c)
-        (λ es q. (complete_treated h fs c (treat_fields form h fs) es ∙ q.0, each_fits _ _ _ (choice_fits P Q h e c a.1 (treat_fields form h fs) (FieldsFit P fs) (FieldsFit Q fs) (fields_fit P Q h e fs a.0) r es) es q.1)) t s
+        map_fits (RecordFits form P fs c r) (RecordFits form Q fs c r) (treated form h fs c)
+        (λ es q. (complete_treated h fs c (treat_fields form h fs) es ∙ q.0, each_fits _ _ _ (choice_fits P Q h e c a.1 (treat_fields form h fs) (FieldsFit form P fs) (FieldsFit form Q fs) (fields_fit P Q h e fs a.0) r es) es q.1)) t s
     treat_fits P Q h e (sum V W) a t s =
         elim (side_of form P V W t a.0 s) [
-          | inl x ↦ subst (Fits Q (sum V W)) (sym (treat_left form h V W t x.0)) (inl (treat_fits P Q h e V a.1 t x.1))
-          | inr y ↦ subst (Fits Q (sum V W)) (sym (treat_right form h V W t y.0 y.1)) (inr (treat_fits P Q h e W a.2 t y.2))
+          | inl x ↦ subst (Fits form Q (sum V W)) (sym (treat_left form h V W t x.0)) (inl (treat_fits P Q h e V a.1 t x.1))
+          | inr y ↦ subst (Fits form Q (sum V W)) (sym (treat_right form h V W t y.0 y.1)) (inr (treat_fits P Q h e W a.2 t y.2))
         ]
 
     fields_fit : (P Q : List ℕ → Plain → Type 0) (h : Treatment) → Makes P Q h → (fs : Fields) → FieldsApart form fs
-        → (O O' : List ℕ → Plain → Type 0) (o : Treatment) → Makes O O' o → Makes (FieldsFit P fs O) (FieldsFit Q fs O') (treat_fields form h fs o)
+        → (O O' : List ℕ → Plain → Type 0) (o : Treatment) → Makes O O' o → Makes (FieldsFit form P fs O) (FieldsFit form Q fs O') (treat_fields form h fs o)
     fields_fit P Q h e no_field a O O' o eo n t s = eo n t s
     fields_fit P Q h e (field x p V fs) a O O' o eo n t s =
-        match_if (same_name n x) _ _ (Fits Q V) (FieldsFit Q fs O' n) _ _ (treat_fits P Q h e V a.0 t) (fields_fit P Q h e fs a.1 O O' o eo n t) s
+        match_if (same_name n x) _ _ (Fits form Q V) (FieldsFit form Q fs O' n) _ _ (treat_fits P Q h e V a.0 t) (fields_fit P Q h e fs a.1 O O' o eo n t) s
 
     choice_fits : (P Q : List ℕ → Plain → Type 0) (h : Treatment) → Makes P Q h → (c : Choice) → ChoiceApart form c
         → (k : Treatment → Treatment) (C C' : (List ℕ → Plain → Type 0) → List ℕ → Plain → Type 0)
         → ((O O' : List ℕ → Plain → Type 0) (o : Treatment) → Makes O O' o → Makes (C O) (C' O') (k o))
-        → (r : Rest) (es : Entries) → Makes (ChoiceFits P c C r es) (ChoiceFits Q c C' r (each_entry (treat_choice form h c k es) es)) (treat_choice form h c k es)
+        → (r : Rest) (es : Entries) → Makes (ChoiceFits form P c C r es) (ChoiceFits form Q c C' r (each_entry (treat_choice form h c k es) es)) (treat_choice form h c k es)
     choice_fits P Q h e no_choice a k C C' ek r es n t s = ek (Unknown r) (Unknown r) _ (λ m u w. w) n t s
-    choice_fits P Q h e (choice tag cs) a k C C' ek r es n t s =
-        match_if (same_name n tag) _ _ (λ _. Unit {0}) (C' (CasesFit Q tag cs r (each_entry (treat_choice form h (choice tag cs) k es) es)) n) _ _ (λ _. tt)
-        (ek (CasesFit P tag cs r es) _ _ (cases_fit P Q h e tag cs a r es _ (λ l. tag_each _ tag l es (λ u. tag_stays form h tag cs k es u))) n t) s
+    choice_fits P Q h e (choice tag cs kept) a k C C' ek r es n t s =
+        match_if (same_name n tag) _ _ (λ _. Unit {0}) (C' (CasesFit form Q tag cs r (each_entry (treat_choice form h (choice tag cs kept) k es) es)) n) _ _ (λ _. tt)
+        (ek (CasesFit form P tag cs r es) _ _ (cases_fit P Q h e tag cs a r es _ (λ l. tag_each _ tag l es (λ u. tag_stays form h tag cs kept k es u))) n t) s
 
     cases_fit : (P Q : List ℕ → Plain → Type 0) (h : Treatment) → Makes P Q h → (tag : List ℕ) (cs : Cases) → CasesApart form cs
-        → (r : Rest) (es es' : Entries) → ((l : List ℕ) → has_tag tag l es' ≡ has_tag tag l es) → Makes (CasesFit P tag cs r es) (CasesFit Q tag cs r es') (treat_cases form h tag cs es)
+        → (r : Rest) (es es' : Entries) → ((l : List ℕ) → has_tag tag l es' ≡ has_tag tag l es) → Makes (CasesFit form P tag cs r es) (CasesFit form Q tag cs r es') (treat_cases form h tag cs es)
     cases_fit P Q h e tag no_case a r es es' et n t s = s
     cases_fit P Q h e tag (case l fs cs) a r es es' et n t s =
-        rw (et l) (match_if (has_tag tag l es) _ _ (FieldsFit Q fs (Unknown r) n) (CasesFit Q tag cs r es' n) _ _ (fields_fit P Q h e fs a.0 (Unknown r) (Unknown r) _ (λ m u w. w) n t) (cases_fit P Q h e tag cs a.1 r es es' et n t) s)
+        rw (et l) (match_if (has_tag tag l es) _ _ (FieldsFit form Q fs (Unknown r) n) (CasesFit form Q tag cs r es' n) _ _ (fields_fit P Q h e fs a.0 (Unknown r) (Unknown r) _ (λ m u w. w) n t) (cases_fit P Q h e tag cs a.1 r es es' et n t) s)

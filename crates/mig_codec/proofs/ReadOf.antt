@@ -9,10 +9,10 @@ use Rattle.mig_model.specs.Plain as plain
 use Rattle.mig_model.specs.Plain.{Plain, trees_of, pairs_of}
 use Rattle.mig_model.specs.Kinds.{kind_of, items_of_trees}
 use Rattle.mig_model.specs.Names.{by_bytes, IsNamed, found}
-use Rattle.mig_model.specs.Inhabits.{Entries, is_in_form}
+use Rattle.mig_model.specs.Inhabits.{Entries}
 use Rattle.mig_model.specs.Template.{Template, list, point, sum, any, same_name, has_kind}
 use Rattle.mig_model.specs.Family.{Family, find_type, body, IsFormed}
-use Rattle.mig_model.specs.Place.{Place, Wrong, named, sooner, under, at_name, unless, wrong_item, wrong_entry, place}
+use Rattle.mig_model.specs.Place.{Place, Wrong, named, sooner, under, at_name, wrong_item, wrong_entry, place}
 use Rattle.mig_laws.proofs.Laws.{place_unfolds}
 use Rattle.mig_laws.proofs.Reading.{wrong_left, wrong_right}
 use Rattle.mig_laws.proofs.Tests.{same_name_is, same_name_itself}
@@ -52,16 +52,6 @@ node_read f formed n V e t v r = record {
   typed = (fit_unfolds (IsAtomOf f.form) (body f) n v).1 (subst (λ o. IsTyped f (unwrap_or o any) v) (sym e) r.typed);
   tree = r.tree;
   counted = λ q. r.counted q ∙ ap (λ o. part_nodes f q (unwrap_or o any) t) (sym e) ∙ sym (body_nodes f formed q n t);
-}
-
--- a name that is no type's has any tree as its body
-pub free_read : (f : Family) → IsFormed f → (n : List ℕ) → find_type n f.types ≡ None → (t : Plain) → is_in_form f.form t ≡ true → IsNodeRead f n t (n, typed.atom t)
-free_read f formed n e t form = record {
-  right = place_unfolds f formed n t ∙ ap (λ o. wrong_part f (unwrap_or o any) t) e ∙ ap unless form;
-  name = refl;
-  typed = (fit_unfolds (IsAtomOf f.form) (body f) n (typed.atom t)).1 (subst (λ o. IsTyped f (unwrap_or o any) (typed.atom t)) (sym e) form);
-  tree = refl;
-  counted = λ q. ap (λ o. part_nodes f q (unwrap_or o any) t) (sym e) ∙ sym (body_nodes f formed q n t);
 }
 
 pub point_read : (f : Family) (n : List ℕ) (t : Plain) (v : values.NodeParts) → IsNodeRead f n t v → IsRead f (point n) t (typed.point v.0 v.1)

@@ -89,13 +89,11 @@ fn is_must(fields: &Fields, name: &[u8]) -> bool
 fn musts_among(fields: &Fields, entries: &Entries) -> usize
     ensures { result ≡ musts_among fields.now entries.now }
 {
-    let mut count = 0;
-    for entry in entries.as_slice() {
-        if is_must(fields, entry.name.bytes()) {
-            count += 1;
-        }
-    }
-    count
+    entries
+        .as_slice()
+        .iter()
+        .filter(|entry| is_must(fields, entry.name.bytes()))
+        .count()
 }
 
 /// The first Must field that isn't there, of all fields.

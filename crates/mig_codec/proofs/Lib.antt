@@ -5,6 +5,7 @@ pub mod ItemLoop
 pub mod Loops
 pub mod Measures
 pub mod Musts
+pub mod NodesOf
 pub mod Pairs
 pub mod PartsOf
 pub mod ReadOf

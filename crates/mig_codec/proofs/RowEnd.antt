@@ -120,7 +120,7 @@ musts_there q row es (g ∷ fs) h e =
     by false k e' rest = absurd cc
 
 -- names that stand once
-among_other : (ms ns : List (List ℕ)) (x : List ℕ) → has_twice (ms ++ ns) ≡ false → is_among ns x ≡ true → is_among ms x ≡ false
+pub among_other : (ms ns : List (List ℕ)) (x : List ℕ) → has_twice (ms ++ ns) ≡ false → is_among ns x ≡ true → is_among ms x ≡ false
 among_other [] ns x h k = refl
 among_other (m ∷ ms) ns x h k =
     let both = split_or (is_among (ms ++ ns) m) (has_twice (ms ++ ns)) h in
@@ -169,7 +169,7 @@ cased_if false (Some s) u h k l = absurd (true≢false k)
 cased_if false None (Some s) h k l = refl
 cased_if false None None h k l = absurd (true≢false (sym l))
 
-or_false : (b : Bool) → (b || false) ≡ false → b ≡ false
+pub or_false : (b : Bool) → (b || false) ≡ false → b ≡ false
 or_false true e = e
 or_false false e = e
 

@@ -40,7 +40,7 @@ module _ (form : Form) (h : Count) where
       go true k rest = let same : (p, V) ≡ s = cc in ap (λ (r : Presence × Template). tally form h r.1 t) same
       go false k rest = rest k
 
-  other_tally : (fs : Fields) (n : List ℕ) → find_field n fs ≡ None → (others : Count) (t : Plain) → tally_fields form h fs others n t ≡ others n t
+  pub other_tally : (fs : Fields) (n : List ℕ) → find_field n fs ≡ None → (others : Count) (t : Plain) → tally_fields form h fs others n t ≡ others n t
   other_tally no_field n e others t = refl
   other_tally (field x p V fs) n e others t = go (same_name n x) e (λ k. other_tally fs n k others t)
     where

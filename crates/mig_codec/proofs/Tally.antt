@@ -36,7 +36,7 @@ module _ (R : Plain → Type 0) where
   map_agree h g e t r = refl
 
 -- the counted nodes of a map's pairs in a record
-abbrev record_tally : Form → Count → Fields → Choice → Entries → ℕ
+abbrev pub record_tally : Form → Count → Fields → Choice → Entries → ℕ
 record_tally form h fs c es = sum_entries (tally_choice form h c (tally_fields form h fs) es) es
 
 -- counts that agree at trees with a property that passes down

@@ -7,4 +7,5 @@ pub mod Exact
 pub mod Formed
 pub mod Laws
 pub mod Reading
+pub mod Versions
 mod Examples

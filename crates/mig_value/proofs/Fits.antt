@@ -59,8 +59,8 @@ module _ (U T : Typed → Type 0) (weaker : (v : Typed) → U v → T v) (P Q : 
 
     choice_inside : (c : Choice) (tag : Option Tag) (n : List ℕ) (v : Typed) → typed_size v ≤ b → ChoiceFits U P c tag n v → ChoiceFits T Q c tag n v
     choice_inside no_choice tag n v l e = absurd e
-    choice_inside (choice t cs) None n v l e = absurd e
-    choice_inside (choice t cs) (Some g) n v l e = cases_inside g.1 cs n v l e
+    choice_inside (choice t cs kept) None n v l e = absurd e
+    choice_inside (choice t cs kept) (Some g) n v l e = cases_inside g.1 cs n v l e
 
     cases_inside : (g : List ℕ) (cs : Cases) (n : List ℕ) (v : Typed) → typed_size v ≤ b → CasesFit U P g cs n v → CasesFit T Q g cs n v
     cases_inside g no_case n v l e = e

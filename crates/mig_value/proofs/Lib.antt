@@ -1,4 +1,5 @@
 pub mod Views
+pub mod Once
 pub mod Fits
 pub mod Orders
 pub mod Places

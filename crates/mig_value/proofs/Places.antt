@@ -18,7 +18,7 @@ use Rattle.mig_model.specs.Names.{by_bytes}
 use Rattle.mig_model.specs.Template.{same_name}
 use Rattle.mig_model.proofs.Searches.{none_there}
 use Rattle.mig_value.specs.Typed.{Typed, Slot, slots_of, Tag}
-use Rattle.mig_value.specs.Parts.{tag_name}
+use Rattle.mig_value.specs.Parts.{Besides, tag_name, with_besides}
 use Rattle.mig_value.specs.Kept.{IsKept, SlotsKept, SlotListKept, RecordKept}
 use Rattle.mig_value.specs.Places.{place_in, value_at, with_value_at}
 use Rattle.mig_value.specs.View.{typed_of, slot_of}
@@ -75,6 +75,11 @@ cased_kept n w fs tag cs ds rs e k h =
       },
       (h.1.0, (k.1, h.1.1.1)),
     )
+
+pub besides_kept : (n : ℕ) (w : Typed) (fs : List Slot) (b d : Besides) → d ≡ record b { cased = with_value_at n w b.cased } → SlotListKept d.cased → RecordKept (with_besides fs b) → RecordKept (with_besides fs d)
+besides_kept n w fs b d e k h =
+    let kept : SlotListKept (with_value_at n w b.cased) = subst (λ (x : Besides). SlotListKept x.cased) e k in
+    subst (λ (x : Besides). RecordKept (with_besides fs x)) (sym e) (cased_kept n w fs b.tag b.cased (with_value_at n w b.cased) b.rest refl kept h)
 
 -- ---- the place that a binary search finds
 module _ (name : List ℕ) where

@@ -5,7 +5,7 @@ use Rattle.std.proofs.Common.{ap, ap₂, arith}
 use base.Stored.{Gv, gnil, gnum, gcons, num}
 use Rattle.mig_model.specs.Code.{coded_plain}
 use Rattle.mig_value.specs.Typed.{Typed, atom, list, left, right, rec, point, Items, no_item, item, Slots, no_slot, slot, Slot, Tag}
-use Rattle.mig_value.specs.Parts.{RecordParts, NodeParts}
+use Rattle.mig_value.specs.Parts.{RecordParts, Besides, NodeParts}
 
 abbrev head : Gv → Gv
 head gnil = gnil
@@ -87,3 +87,7 @@ abbrev pub coded_record : Coded RecordParts
 coded_record =
     code_by (List Slot × (Option Tag × (List Slot × List Slot))) (coded× coded_slots (coded× coded_tag (coded× coded_slots coded_slots))) (λ p. (p.fields, (p.tag, (p.cased, p.rest))))
     (λ t. record { fields = t.0; tag = t.1.0; cased = t.1.1.0; rest = t.1.1.1 }) (λ _. refl)
+
+abbrev pub coded_besides : Coded Besides
+coded_besides =
+    code_by (Option Tag × (List Slot × List Slot)) (coded× coded_tag (coded× coded_slots coded_slots)) (λ b. (b.tag, (b.cased, b.rest))) (λ t. record { tag = t.0; cased = t.1.0; rest = t.1.1 }) (λ _. refl)

@@ -33,8 +33,25 @@ pub record IsRecord (p : RecordParts) : Type 0 where
 abbrev pub NodeParts : Type 0
 NodeParts = List ℕ × Typed
 
+-- what a record value has besides its common fields
+pub record Besides : Type 0 where
+  pub tag : Option Tag
+  pub cased : List Slot
+  pub rest : List Slot
+
+-- without any of them there is nothing
+abbrev pub beside : Option Besides → Besides
+beside None = record { tag = None; cased = []; rest = [] }
+beside (Some b) = b
+
+abbrev pub with_besides : List Slot → Besides → RecordParts
+with_besides fs b = record { fields = fs; tag = b.tag; cased = b.cased; rest = b.rest }
+
+abbrev pub besides_size : Besides → ℕ
+besides_size b = suc (slot_list_size b.cased + slot_list_size b.rest)
+
 abbrev pub record_size : RecordParts → ℕ
-record_size p = suc (slot_list_size p.fields + (slot_list_size p.cased + slot_list_size p.rest))
+record_size p = suc (suc (slot_list_size p.fields + (slot_list_size p.cased + slot_list_size p.rest)))
 
 abbrev pub node_size : NodeParts → ℕ
 node_size n = suc (typed_size n.1)

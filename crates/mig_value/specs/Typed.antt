@@ -81,7 +81,7 @@ abbrev mutual
   typed_size (list vs) = suc (items_size vs)
   typed_size (left v) = suc (typed_size v)
   typed_size (right v) = suc (typed_size v)
-  typed_size (rec fs tag cs rs) = suc (suc (slots_size fs + (slots_size cs + slots_size rs)))
+  typed_size (rec fs tag cs rs) = suc (suc (suc (slots_size fs + (slots_size cs + slots_size rs))))
   typed_size (point n v) = suc (suc (typed_size v))
 
   pub items_size : Items → ℕ

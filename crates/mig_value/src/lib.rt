@@ -3,6 +3,7 @@
 
 mod boxed;
 mod counter;
+mod extras;
 mod keeping;
 mod law;
 mod leaf;

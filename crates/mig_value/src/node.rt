@@ -1,10 +1,10 @@
 ghost use Rattle.std.specs.Prelude.{◌≡◌, ◌+◌};
 
-use crate::{Counter, Name, Value};
+use crate::{Counter, Name, Tree, Value};
 use std::marker::Model;
 use std::mem;
 
-/// A tree of a named type. Only `enter` leads to its body, and counts.
+/// A tree of a named type. Only `enter` and `open` lead to its body, and count.
 #[cycle(value)]
 #[derive(Debug, Drop)]
 pub struct Node<'a> {
@@ -39,6 +39,8 @@ impl<'a> Model for Node<'a> {
 }
 
 impl<'a> Node<'a> {
+    ghost use Rattle.mig_model.specs.Plain.{null};
+    ghost use Rattle.mig_value.specs.Typed.{atom};
     ghost use Rattle.mig_value.specs.Kept.{IsKept};
     ghost use Rattle.mig_value.specs.View.{typed_of};
 
@@ -57,23 +59,32 @@ impl<'a> Node<'a> {
         &self.name
     }
 
-    /// Takes the name out and leaves this one there.
-    pub fn swap_name(&mut self, name: Name) -> Name
-        ensures name { result ≡ self.old.0 }
-        ensures rest { self.new ≡ (name, self.old.1) }
-    {
-        mem::replace(&mut self.name, name)
-    }
-
     /// The body. It counts one.
     pub fn enter<C: Counter>(self, steps: &mut C) -> Value<'a>
         ensures body { typed_of result ≡ self.entry.1 }
         ensures count { C.counted steps.new ≡ C.counted steps.old + 1 }
     {
+        let mut node = self;
+        node.open(steps)
+    }
+
+    /// Takes the body out and leaves an Atom Null there. It counts one.
+    pub fn open<C: Counter>(&mut self, steps: &mut C) -> Value<'a>
+        ensures body { typed_of result ≡ self.old.1 }
+        ensures rest { self.new ≡ (self.old.0, atom null) }
+        ensures count { C.counted steps.new ≡ C.counted steps.old + 1 }
+    {
         steps.tick();
-        let Node { name, body } = self;
-        drop(name);
-        body
+        mem::replace(&mut self.body, Value::Atom(Tree::Null))
+    }
+
+    /// Puts a body in, and lets go of what stood there.
+    pub fn close(&mut self, value: Value<'a>)
+        ensures { self.new ≡ (self.old.0, typed_of value.entry) }
+    {
+        value.keeps();
+        let before = mem::replace(&mut self.body, value);
+        drop(before);
     }
 
     /// The body, for a look at leaves alone.

@@ -1,16 +1,19 @@
-ghost use Rattle.std.specs.Prelude.{◌≡◌, option_map};
+//! The value of a record.
+ghost use Rattle.std.specs.Prelude.{◌≡◌, [], None, option_map, map, IfOk};
 
-use crate::{SlotPlace, Slots, Text, Value};
+use crate::extras::{ExtraParts, Extras, boxed, unboxed};
+use crate::{Memory, Slot, SlotPlace, Slots, Text, Value};
+use std::alloc::Global;
 use std::marker::Model;
 
 /// The value of a record: the fields that are there, the tag's name and literal, the fields of its case that are there, and the unknown fields. Contracts see its parts as lists.
+///
+/// All but the fields stand behind one box, which a value without them doesn't have.
 #[cycle(value)]
 #[derive(Debug, Drop)]
 pub struct RecValue<'a> {
     fields: Slots<'a>,
-    tag: Option<(Text<'a>, Text<'a>)>,
-    cased: Slots<'a>,
-    rest: Slots<'a>,
+    extras: Option<Extras<'a>>,
 }
 
 impl<'a> Model for RecValue<'a> {
@@ -21,11 +24,13 @@ impl<'a> Model for RecValue<'a> {
 
     ghost coded = { coded_record };
 
-    ghost view = { λ a. record { fields = a.fields; tag = a.tag; cased = a.cased; rest = a.rest } };
+    ghost use Rattle.mig_value.specs.Parts.{beside, with_besides};
+
+    ghost view = { λ a. with_besides a.fields (beside a.extras) };
 
     ghost use Rattle.mig_value.specs.Kept.{RecordKept};
 
-    ghost invariant = { λ a. RecordKept (record { fields = a.fields; tag = a.tag; cased = a.cased; rest = a.rest }) };
+    ghost invariant = { λ a. RecordKept (with_besides a.fields (beside a.extras)) };
 
     ghost use Rattle.mig_value.specs.Parts.{record_size};
 
@@ -41,27 +46,37 @@ impl<'a> RecValue<'a> {
     ghost use Rattle.mig_model.specs.Family.{has_twice};
     ghost use Rattle.mig_value.specs.Parts.{names_in};
     ghost use Rattle.mig_value.specs.Kept.{RecordKept};
-    ghost use Rattle.mig_value.specs.Places.{place_of, IsPlace, value_there, with_value_there};
-    ghost use Rattle.mig_value.specs.View.{typed_of};
+    ghost use Rattle.mig_value.specs.Places.{place_in, place_of, IsPlace, value_there, with_value_there};
+    ghost use Rattle.mig_value.specs.View.{typed_of, slot_of};
+    ghost use Rattle.mig_value.specs.declared.place.SlotPlace.TheVariants.{Cased};
 
-    /// The record value of these parts, of which no two names are equal.
+    /// The record value of these parts, of which no two names are equal. It takes memory only where there is more than fields.
     pub fn new(
+        alloc: Global,
         fields: Slots<'a>,
         tag: Option<(Text<'a>, Text<'a>)>,
         cased: Slots<'a>,
         rest: Slots<'a>,
-    ) -> RecValue<'a>
+    ) -> Result<RecValue<'a>, Memory>
         requires { has_twice (names_in (record { fields = fields; tag = tag; cased = cased; rest = rest })) ≡ false }
-        ensures { result ≡ record { fields = fields.entry; tag = tag.entry; cased = cased.entry; rest = rest.entry } }
+        ensures { IfOk result (λ r. r ≡ record { fields = fields.entry; tag = tag.entry; cased = cased.entry; rest = rest.entry }) }
     {
         let _fields = fields.as_slice();
         let _cased = cased.as_slice();
         let _rest = rest.as_slice();
+        let parts = ExtraParts { tag, cased, rest };
+        let extras = boxed(alloc, parts)?;
+        Ok(RecValue { fields, extras })
+    }
+
+    /// The record value of fields alone. It takes no memory.
+    pub fn of_fields(fields: Slots<'a>) -> RecValue<'a>
+        ensures { result ≡ record { fields = fields.entry; tag = None; cased = []; rest = [] } }
+    {
+        let _fields = fields.as_slice();
         RecValue {
             fields,
-            tag,
-            cased,
-            rest,
+            extras: None,
         }
     }
 
@@ -76,21 +91,40 @@ impl<'a> RecValue<'a> {
     pub fn tag(&self) -> Option<&(Text<'a>, Text<'a>)>
         ensures { option_map (λ t. (t.now.0, t.now.1)) result ≡ self.now.tag }
     {
-        self.tag.as_ref()
+        match &self.extras {
+            Some(extras) => extras.tag(),
+            None => None,
+        }
     }
 
     /// The fields of the tag's case that are there.
-    pub fn cased(&self) -> &Slots<'a>
-        ensures { result.now ≡ self.now.cased }
+    pub fn cased(&self) -> &[Slot<'a>]
+        ensures { map slot_of result.now ≡ self.now.cased }
     {
-        &self.cased
+        match &self.extras {
+            Some(extras) => extras.cased().as_slice(),
+            None => &[],
+        }
     }
 
     /// The unknown fields.
-    pub fn rest(&self) -> &Slots<'a>
-        ensures { result.now ≡ self.now.rest }
+    pub fn rest(&self) -> &[Slot<'a>]
+        ensures { map slot_of result.now ≡ self.now.rest }
     {
-        &self.rest
+        match &self.extras {
+            Some(extras) => extras.rest().as_slice(),
+            None => &[],
+        }
+    }
+
+    /// Where the name is among the fields of the case.
+    fn cased_place(&self, name: &[u8]) -> Option<SlotPlace>
+        ensures { result ≡ option_map (λ n. Cased n) (place_in name.now self.now.cased) }
+    {
+        match &self.extras {
+            Some(extras) => extras.cased().place(name).map(SlotPlace::Cased),
+            None => None,
+        }
     }
 
     /// Where the name is among the fields and the fields of the case. It takes log n comparisons.
@@ -99,7 +133,7 @@ impl<'a> RecValue<'a> {
     {
         match self.fields.place(name) {
             Some(at) => Some(SlotPlace::Field(at)),
-            None => self.cased.place(name).map(SlotPlace::Cased),
+            None => self.cased_place(name),
         }
     }
 
@@ -111,13 +145,17 @@ impl<'a> RecValue<'a> {
     {
         match place {
             SlotPlace::Field(at) => self.fields.swap(at, value),
-            SlotPlace::Cased(at) => self.cased.swap(at, value),
+            SlotPlace::Cased(at) => match &mut self.extras {
+                Some(extras) => extras.swap_cased(at, value),
+                None => unreachable!(),
+            },
         }
     }
 
-    /// Gives the parts up.
+    /// Gives the parts up. It takes no memory.
     pub fn into_parts(
         self,
+        alloc: Global,
     ) -> (
         Slots<'a>,
         Option<(Text<'a>, Text<'a>)>,
@@ -130,12 +168,8 @@ impl<'a> RecValue<'a> {
         ensures rest { result.3 ≡ self.entry.rest }
         ensures keep { RecordKept self.entry }
     {
-        let RecValue {
-            fields,
-            tag,
-            cased,
-            rest,
-        } = self;
+        let RecValue { fields, extras } = self;
+        let ExtraParts { tag, cased, rest } = unboxed(alloc, extras);
         (fields, tag, cased, rest)
     }
 

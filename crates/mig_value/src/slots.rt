@@ -1,4 +1,4 @@
-ghost use Rattle.std.specs.Prelude.{◌≡◌, ◌<◌, [], length, map};
+ghost use Rattle.std.specs.Prelude.{◌≡◌, ◌<◌, [], eqb, length, map};
 ghost use Rattle.mig_model.specs.Ascends.{Ascends};
 
 use crate::keeping::keep_slots;
@@ -61,6 +61,13 @@ impl<'a> Slots<'a> {
         Slots {
             list: Vec::new(alloc),
         }
+    }
+
+    /// Whether there are none.
+    pub fn is_empty(&self) -> bool
+        ensures { result ≡ eqb (length self.now) 0 }
+    {
+        self.list.is_empty()
     }
 
     /// These slots, whose names are distinct and ascend.

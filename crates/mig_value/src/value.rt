@@ -1,5 +1,6 @@
 use crate::leaf::{has_leaf, take_leaf};
 use crate::{Node, RecValue, Tree, ValueBox, Values};
+use std::mem::size_of;
 
 /// A save or a part of one, read by a template. A leaf, an `Any` and an unknown field are an atom; the sides of a sum are `Left` and `Right`.
 #[cycle(value)]
@@ -13,6 +14,8 @@ pub enum Value<'a> {
     /// A tree of a named type.
     Point(Box<Node<'a>>),
 }
+
+const _: () = prove!(size_of::<Value<'static>>() <= 48);
 
 impl<'a> Value<'a> {
     ghost use Rattle.std.specs.Prelude.{◌≡◌, None, Some, IfErr, IfOk};

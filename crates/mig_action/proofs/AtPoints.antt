@@ -79,8 +79,8 @@ module _ (U : Typed → Type 0) (Q : NodeParts → Type 0) where
     fields_listed (field x p V fs) n v h q = either_has (same_name n x) (Fits U Anything V v) (FieldsFit U Anything fs n v) (Fits U Has V v) (FieldsFit U Has fs n v) (nodes_at V v) (nodes_in_fields fs n v) (listed V v) (fields_listed fs n v) h q
 
     choice_listed : (c : Choice) (tag : Option Tag) (n : List ℕ) (v : Typed) → ChoiceFits U Anything c tag n v → All (nodes_in_choice c tag n v) → ChoiceFits U Has c tag n v
-    choice_listed (choice m cs) (Some t) n v h q = cases_listed t.1 cs n v h q
-    choice_listed (choice m cs) None n v h q = absurd h
+    choice_listed (choice m cs kept) (Some t) n v h q = cases_listed t.1 cs n v h q
+    choice_listed (choice m cs kept) None n v h q = absurd h
     choice_listed no_choice tag n v h q = absurd h
 
     cases_listed : (l : List ℕ) (cs : Cases) (n : List ℕ) (v : Typed) → CasesFit U Anything l cs n v → All (nodes_in_cases l cs n v) → CasesFit U Has l cs n v
@@ -130,8 +130,8 @@ module _ (U : Typed → Type 0) (Q : NodeParts → Type 0) where
     fields_given (field x p V fs) n v h = either_gives (same_name n x) (Fits U Has V v) (FieldsFit U Has fs n v) (nodes_at V v) (nodes_in_fields fs n v) (given V v) (fields_given fs n v) h
 
     choice_given : (c : Choice) (tag : Option Tag) (n : List ℕ) (v : Typed) → ChoiceFits U Has c tag n v → All (nodes_in_choice c tag n v)
-    choice_given (choice m cs) (Some t) n v h = cases_given t.1 cs n v h
-    choice_given (choice m cs) None n v h = tt
+    choice_given (choice m cs kept) (Some t) n v h = cases_given t.1 cs n v h
+    choice_given (choice m cs kept) None n v h = tt
     choice_given no_choice tag n v h = tt
 
     cases_given : (l : List ℕ) (cs : Cases) (n : List ℕ) (v : Typed) → CasesFit U Has l cs n v → All (nodes_in_cases l cs n v)

@@ -1,4 +1,4 @@
--- No function makes nodes: there are at most as many of each name afterwards.
+-- No function makes nodes: for every test there are at most as many afterwards.
 use Rattle.std.proofs.Common.{◌≡◌, ◌≤◌, ◌+◌, ℕ, List, [], ◌∷◌, Bool, true, false, Option, Some, None, refl, ap, arith}
 use Rattle.std.specs.Prelude.{not, option_and_then, unwrap_or, if◌then◌else◌}
 use Rattle.std.specs.Ordering.{match_ordering}
@@ -15,27 +15,27 @@ use Rattle.mig_template.specs.Parts.{is_among, found_case}
 use Rattle.mig_value.specs.Typed.{Typed, atom, list, left, right, rec, point, no_item, item, Slot, slots, slots_of}
 use Rattle.mig_value.specs.Parts.{RecordParts, record_of}
 use Rattle.mig_value.specs.Leaf.{leaf_of}
+use Rattle.mig_value.specs.Nodes.{Test, nodes, nodes_in_slots}
 use Rattle.mig_action.specs.Edits.{under, has, without, put, bring, put_all, those, others, changed}
 use Rattle.mig_action.specs.FieldFn.{Scope, common, in_case, Fill, constant, empty_list, FieldOp, rename, drop, add, learn, forget, default, maybe, map_leaf, nest, unnest, wrap, unify, retag, add_case, FieldFn}
 use Rattle.mig_model.specs.Leaf.{leaf_value}
 use Rattle.mig_action.specs.Act.{inner_names, left_kind, unified}
 use Rattle.mig_action.specs.Moves.{Moving, move, fill_value, at_leaf, at_side, leaf_of_kind, learned_value, open_record, inner_slots, with_moving, with_moving_case, is_literal, apply_by, apply}
-use Rattle.mig_action.specs.Nodes.{nodes_named, slots_named}
 use Rattle.mig_action.proofs.Orders.{slots_whole}
 
-module _ (x : List ℕ) where
+module _ (x : Test) where
   abbrev pub count : List Slot → ℕ
-  count ss = slots_named x (slots_of ss)
+  count ss = nodes_in_slots x (slots_of ss)
 
   abbrev pub of_some : Option Typed → ℕ
   of_some None = 0
-  of_some (Some v) = nodes_named x v
+  of_some (Some v) = nodes x v
 
-  count_put : (y : List ℕ) (v : Typed) (ss : List Slot) → count (put y v ss) ≤ count ss + nodes_named x v
+  count_put : (y : List ℕ) (v : Typed) (ss : List Slot) → count (put y v ss) ≤ count ss + nodes x v
   count_put y v [] = omega arith
   count_put y v (s ∷ ss) = by (by_bytes y s.0) (count_put y v ss)
     where
-      by : (o : Ordering) → count (put y v ss) ≤ count ss + nodes_named x v → count (match_ordering o ((y, v) ∷ s ∷ ss) ((s.0, v) ∷ ss) (s ∷ put y v ss)) ≤ count (s ∷ ss) + nodes_named x v
+      by : (o : Ordering) → count (put y v ss) ≤ count ss + nodes x v → count (match_ordering o ((y, v) ∷ s ∷ ss) ((s.0, v) ∷ ss) (s ∷ put y v ss)) ≤ count (s ∷ ss) + nodes x v
       by Less h = omega arith
       by Equal h = omega arith
       by Greater h = omega arith
@@ -64,19 +64,19 @@ module _ (x : List ℕ) where
       by true h = omega arith
       by false h = omega arith
 
-  count_changed : (y : List ℕ) (f : Typed → Typed) → ((v : Typed) → nodes_named x (f v) ≤ nodes_named x v) → (ss : List Slot) → count (changed y f ss) ≤ count ss
+  count_changed : (y : List ℕ) (f : Typed → Typed) → ((v : Typed) → nodes x (f v) ≤ nodes x v) → (ss : List Slot) → count (changed y f ss) ≤ count ss
   count_changed y f h [] = omega arith
   count_changed y f h (s ∷ ss) = by (same_name y s.0) (count_changed y f h ss)
     where
-      by : (b : Bool) → count (changed y f ss) ≤ count ss → nodes_named x (if b then f s.1 else s.1) + count (changed y f ss) ≤ nodes_named x s.1 + count ss
+      by : (b : Bool) → count (changed y f ss) ≤ count ss → nodes x (if b then f s.1 else s.1) + count (changed y f ss) ≤ nodes x s.1 + count ss
       by true k = let a = h s.1 in omega arith
       by false k = omega arith
 
-  count_fill : (c : Fill) → nodes_named x (fill_value c) ≡ 0
+  count_fill : (c : Fill) → nodes x (fill_value c) ≡ 0
   count_fill (constant c) = refl
   count_fill (empty_list V) = refl
 
-  count_leaf : (f : Plain → Plain) (v : Typed) → nodes_named x (at_leaf f v) ≤ nodes_named x v
+  count_leaf : (f : Plain → Plain) (v : Typed) → nodes x (at_leaf f v) ≤ nodes x v
   count_leaf f (atom t) = omega arith
   count_leaf f (list vs) = omega arith
   count_leaf f (left v) = omega arith
@@ -84,7 +84,7 @@ module _ (x : List ℕ) where
   count_leaf f (rec fs tag cs rs) = omega arith
   count_leaf f (point n v) = omega arith
 
-  count_side : (f : Plain → Plain) (v : Typed) → nodes_named x (at_side f v) ≤ nodes_named x v
+  count_side : (f : Plain → Plain) (v : Typed) → nodes x (at_side f v) ≤ nodes x v
   count_side f (atom t) = omega arith
   count_side f (list vs) = omega arith
   count_side f (left v) = count_leaf f v
@@ -97,17 +97,17 @@ module _ (x : List ℕ) where
   count_learned None (Some v) = omega arith
   count_learned (Some j) (Some v) = by (leaf_of v)
     where
-      at : (b : Bool) (u : Plain) → of_some (if_so b (atom u)) ≤ nodes_named x v
+      at : (b : Bool) (u : Plain) → of_some (if_so b (atom u)) ≤ nodes x v
       at true u = omega arith
       at false u = omega arith
 
-      by : (l : Option Plain) → of_some (leaf_of_kind j l) ≤ nodes_named x v
+      by : (l : Option Plain) → of_some (leaf_of_kind j l) ≤ nodes x v
       by None = omega arith
       by (Some u) = at (same_kind (kind_of u) j) u
 
   count_inner : (o : Option Typed) → count (inner_slots o) ≤ of_some o
   count_inner None = omega arith
-  count_inner (Some (rec fs tag cs rs)) = let e : count (slots fs) ≡ slots_named x fs = ap (slots_named x) (slots_whole fs) in omega arith
+  count_inner (Some (rec fs tag cs rs)) = let e : count (slots fs) ≡ nodes_in_slots x fs = ap (nodes_in_slots x) (slots_whole fs) in omega arith
   count_inner (Some (atom t)) = omega arith
   count_inner (Some (list vs)) = omega arith
   count_inner (Some (left v)) = omega arith
@@ -156,7 +156,7 @@ module _ (x : List ℕ) where
   move_counts (add_case b gs) fs m = omega arith
 
   abbrev pub count_record : RecordParts → ℕ
-  count_record v = nodes_named x (record_of v)
+  count_record v = nodes x (record_of v)
 
   common_counts : (op : FieldOp) (fs : List Field) (v : RecordParts) → count_record (with_moving v (move op fs (record { slots = v.fields; rest = v.rest }))) ≤ count_record v
   common_counts op fs v = let a = move_counts op fs (record { slots = v.fields; rest = v.rest }) in omega arith

@@ -5,7 +5,7 @@ use Rattle.std.specs.List.{list_any, AllByRecursion}
 use Rattle.std.specs.Map.{keys_of}
 use Rattle.mig_model.specs.declared.presence.Presence.{Presence}
 use Rattle.mig_model.specs.Ascends.{Ascends}
-use Rattle.mig_model.specs.Template.{Template, Field, cases_of, same_name, is_open}
+use Rattle.mig_model.specs.Template.{Template, Field, cases_of, same_name}
 use Rattle.mig_model.specs.Fields.{is_field, is_in_choice, is_case_field}
 use Rattle.mig_model.specs.Family.{has_twice}
 use Rattle.mig_template.specs.Parts as template
@@ -20,7 +20,7 @@ use Rattle.mig_laws.proofs.Tests.{split_or, same_name_is, same_name_itself}
 use Rattle.mig_action.specs.Edits.{under, has}
 use Rattle.mig_action.specs.NewRecord.{is_tag}
 use Rattle.mig_action.proofs.Edits.{ascends-none}
-use Rattle.mig_action.proofs.Stands.{Stands, IsRest, RecordStands, case_of, has_either, field_is}
+use Rattle.mig_action.proofs.Stands.{Stands, IsRest, RecordStands, opened, case_of, has_either, field_is}
 use Rattle.mig_action.proofs.Orders.{among_is}
 
 -- no name of the fields and of the tag's case is used twice
@@ -176,7 +176,7 @@ module _ (U : Typed → Type 0) (P : List ℕ → Typed → Type 0) (p : RecordP
   rest_apart : (n : List ℕ) → has n v.rest ≡ true → (has n p.fields ≡ false) × (has_either n p.choice v.tag ≡ false)
   rest_apart n h = by (under n p.fields) (has_either n p.choice v.tag) (under n v.rest) h (r.rest n)
     where
-      by : (F : Option (Presence × Template)) (b : Bool) (S : Option Typed) → is_some S ≡ true → IsRest U F b (is_open p.rest) S → (is_some F ≡ false) × (b ≡ false)
+      by : (F : Option (Presence × Template)) (b : Bool) (S : Option Typed) → is_some S ≡ true → IsRest U F b (opened p v.tag) S → (is_some F ≡ false) × (b ≡ false)
       by F b None k s = absurd (true≢false (sym k))
       by F b (Some w) k s = (ap is_some s.0, s.1)
 

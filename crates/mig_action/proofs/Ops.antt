@@ -1,5 +1,5 @@
 -- Each function on the fields of a scope.
-use Rattle.std.proofs.Common.{◌≡◌, ℕ, List, Bool, Option, Some, None, subst, ◌∙◌}
+use Rattle.std.proofs.Common.{◌≡◌, ℕ, List, Bool, true, Option, Some, None, subst}
 use Rattle.std.specs.Prelude.{◌&&◌, ◌||◌, map, option_and_then}
 use Rattle.std.specs.List.{list_all}
 use Rattle.std.specs.Map.{keys_of}
@@ -32,7 +32,7 @@ pub record Inside (U : Typed → Type 0) (s : Scoped) (m : Moving) : Type 0 wher
   pub any : (x : List ℕ) (v : Typed) → under x m.slots ≡ Some v → U v
 
 module _ (U : Typed → Type 0) (P : List ℕ → Typed → Type 0) (opened : Bool) (away : List ℕ → Bool) (elsewhere : List ℕ → Option Plain) (s : Scoped) (m : Moving) (es : Entries)
-    (t : Setting U P opened away s m) (d : Mapped away elsewhere m es) (r : Rest) (o : opened ≡ is_open r) (i : Inside U s m) where
+    (t : Setting U P opened away s m) (d : Mapped away elsewhere m es) (r : Rest) (o : is_open r ≡ true → opened ≡ true) (i : Inside U s m) where
   abbrev Is : List Field → FieldOp → Type 0
   Is gs op = Settled U P opened away elsewhere s gs (move op s.fields m) (edit op s.fields es)
 
@@ -56,7 +56,7 @@ module _ (U : Typed → Type 0) (P : List ℕ → Typed → Type 0) (opened : Bo
   op_settled (forget x) gs h =
       let a = so (has x s.fields && is_open r) (without x s.fields) gs h in
       let b = split_and (has x s.fields) (is_open r) a.0 in
-      subst (λ l. Is l (forget x)) a.1 (forgotten U P opened away elsewhere s m es t d x b.0 (o ∙ b.1) (i.any x))
+      subst (λ l. Is l (forget x)) a.1 (forgotten U P opened away elsewhere s m es t d x b.0 (o b.1) (i.any x))
   op_settled (default x c) gs h =
       let f = at-field x (filled c) s.fields gs h in
       subst (λ l. Is l (default x c)) f.gives (fills U P opened away elsewhere s m es t d x f.old f.new f.there c f.becomes)

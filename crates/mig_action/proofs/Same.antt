@@ -1,5 +1,5 @@
 -- Templates that pass the test are equal.
-use Rattle.std.proofs.Common.{◌≡◌, true, true≢false, refl, sym, ap}
+use Rattle.std.proofs.Common.{◌≡◌, Bool, true, false, true≢false, refl, sym, ap}
 use Rattle.std.specs.Prelude.{◌&&◌}
 use Rattle.mig_model.specs.declared.presence.Presence.{Presence}
 use Rattle.mig_model.specs.declared.presence.Presence.TheVariants.{Must, May}
@@ -7,7 +7,7 @@ use Rattle.mig_model.specs.declared.rest.Rest.{Rest}
 use Rattle.mig_model.specs.declared.rest.Rest.TheVariants.{Open, Closed}
 use Rattle.mig_model.specs.Template.{Template, leaf, any, list, point, rec, sum, Fields, no_field, field, Choice, no_choice, choice, Cases, no_case, case, same_name}
 use Rattle.mig_laws.proofs.Tests.{split_and, same_name_is, same_kind_is}
-use Rattle.mig_action.specs.SameTemplate.{same_presence, same_rest, same_template, same_fields, same_choice, same_cases}
+use Rattle.mig_action.specs.SameTemplate.{same_presence, same_rest, same_kept, same_template, same_fields, same_choice, same_cases}
 
 presence_is : (p q : Presence) → same_presence p q ≡ true → p ≡ q
 presence_is Must Must h = refl
@@ -18,6 +18,11 @@ rest_is : (r s : Rest) → same_rest r s ≡ true → r ≡ s
 rest_is Open Open h = refl
 rest_is Closed Closed h = refl
 rest_is r s h = absurd (true≢false (sym h))
+
+kept_is : (k l : Bool) → same_kept k l ≡ true → k ≡ l
+kept_is true true h = refl
+kept_is false false h = refl
+kept_is k l h = absurd (true≢false (sym h))
 
 mutual
   pub same_is : (V W : Template) → same_template V W ≡ true → V ≡ W
@@ -45,9 +50,10 @@ mutual
 
   choice_is : (c d : Choice) → same_choice c d ≡ true → c ≡ d
   choice_is no_choice no_choice h = refl
-  choice_is (choice m cs) (choice n ds) h =
-      let a = split_and (same_name m n) (same_cases cs ds) h in
-      λ i. choice (same_name_is m n a.0 i) (cases_is cs ds a.1 i)
+  choice_is (choice m cs k) (choice n ds l) h =
+      let a = split_and (same_name m n) (same_cases cs ds && same_kept k l) h in
+      let b = split_and (same_cases cs ds) (same_kept k l) a.1 in
+      λ i. choice (same_name_is m n a.0 i) (cases_is cs ds b.0 i) (kept_is k l b.1 i)
   choice_is c d h = absurd (true≢false (sym h))
 
   cases_is : (cs ds : Cases) → same_cases cs ds ≡ true → cs ≡ ds

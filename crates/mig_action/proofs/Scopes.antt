@@ -1,6 +1,6 @@
 -- A whole record: its common fields, or the fields of the tag's case, are a scope of it.
-use Rattle.std.proofs.Common.{◌≡◌, ℕ, List, [], ◌∷◌, Bool, true, false, true≢false, Option, Some, None, refl, sym, ap, subst, ◌∙◌}
-use Rattle.std.specs.Prelude.{◌||◌, is_some, option_map, unwrap_or, if◌then◌else◌}
+use Rattle.std.proofs.Common.{◌≡◌, ℕ, List, [], ◌∷◌, Bool, true, false, true≢false, Option, Some, None, refl, sym, ap, subst, ◌∙◌, IsTrue}
+use Rattle.std.specs.Prelude.{not, ◌||◌, is_some, option_map, unwrap_or, if◌then◌else◌}
 use Rattle.mig_model.specs.declared.presence.Presence.{Presence}
 use Rattle.mig_model.specs.declared.rest.Rest.{Rest}
 use Rattle.mig_model.specs.Plain as plain
@@ -14,7 +14,7 @@ use Rattle.mig_template.specs.Parts.{IsRecord, choice_of, found_case}
 use Rattle.mig_template.specs.Kept as template_kept
 use Rattle.mig_value.specs.Typed.{Typed, Slot, Tag, out, tag_pair}
 use Rattle.mig_value.specs.Parts as value
-use Rattle.mig_value.specs.Fit.{TagFits}
+use Rattle.mig_value.specs.Fit.{TagFits, has_literal, has_unknown_tag}
 use Rattle.mig_value.specs.Kept as value_kept
 use Rattle.mig_laws.proofs.Tests.{split_or, same_name_itself}
 use Rattle.mig_action.specs.Edits.{under, has, put}
@@ -23,7 +23,7 @@ use Rattle.mig_action.specs.NewRecord.{Scoped, is_tag, new_fields}
 use Rattle.mig_action.specs.Act.{edit}
 use Rattle.mig_action.specs.Moves.{Moving, move, with_moving, with_moving_case}
 use Rattle.mig_action.proofs.Edits.{first, same_under, under-put}
-use Rattle.mig_action.proofs.Stands.{Stands, IsRest, RecordStands, case_of, has_either, field_is, literal_is}
+use Rattle.mig_action.proofs.Stands.{Stands, IsRest, RecordStands, opened, case_of, has_either, field_is, literal_is}
 use Rattle.mig_action.proofs.Settings.{Setting, Mapped, none-there}
 use Rattle.mig_action.proofs.Orders.{pairs_of_record, under_record, ascends-in_order, pairs_by_list}
 use Rattle.mig_action.proofs.Distinct.{Distinct, common_apart, case_apart, case_ascends, distinct_of, neither, not_true}
@@ -111,7 +111,7 @@ module _ (U : Typed → Type 0) (P : List ℕ → Typed → Type 0) where
     abbrev elsewhere : List ℕ → Option Plain
     elsewhere n = first (under n (tag_pair v.tag)) (option_map out (under n v.cased))
 
-    common_setting : Setting U P (is_open p.rest) away common_scope common_moving
+    common_setting : Setting U P (opened p v.tag) away common_scope common_moving
     common_setting = record {
       fields_ascend = q.is_record.fields;
       slots_ascend = q.fields_ascend;
@@ -134,7 +134,7 @@ module _ (U : Typed → Type 0) (P : List ℕ → Typed → Type 0) where
     pub common_becomes : (op : FieldOp) (gs : List Field) → new_fields op p.rest common_scope ≡ Some gs
         → Becomes U P (record p { fields = gs }) (with_moving v (move op p.fields common_moving)) (edit op p.fields (pairs_of_record v))
     common_becomes op gs h =
-        let r = op_settled U P (is_open p.rest) away elsewhere common_scope common_moving (pairs_of_record v) common_setting common_map p.rest refl
+        let r = op_settled U P (opened p v.tag) away elsewhere common_scope common_moving (pairs_of_record v) common_setting common_map p.rest (ap (λ b. b || has_unknown_tag (choice_of p.choice) v.tag))
         (record { templates = q.templates; values = λ x w e. (q.values x w e).0; any = λ x w e. (q.values x w e).1 }) op gs h in
         let w = with_moving v (move op p.fields common_moving) in
         let d = distinct_of p q.is_record v.tag in
@@ -152,6 +152,9 @@ module _ (U : Typed → Type 0) (P : List ℕ → Typed → Type 0) where
   module _ (fs : List Field) (c : template.Cases) (r : Rest) (vf : List Slot) (t : Tag) (vc vr : List Slot) where
     abbrev case_record : template.RecordParts
     case_record = record { fields = fs; choice = Some c; rest = r }
+
+    abbrev case_opened : Bool
+    case_opened = opened case_record (Some t)
 
     abbrev case_value : value.RecordParts
     case_value = record { fields = vf; tag = Some t; cased = vc; rest = vr }
@@ -175,16 +178,16 @@ module _ (U : Typed → Type 0) (P : List ℕ → Typed → Type 0) where
       case_stand : (n : List ℕ) → Stands U P (under n ds) (under n vc)
       case_stand n = subst (λ l. Stands U P (under n l) (under n vc)) case_is (q.stand.cased n)
 
-      case_rests : (n : List ℕ) → IsRest U (under n ds) (case_away n) (is_open r) (under n vr)
+      case_rests : (n : List ℕ) → IsRest U (under n ds) (case_away n) case_opened (under n vr)
       case_rests n = by (under n vr) (q.stand.rest n)
         where
-          by : (R : Option Typed) → IsRest U (under n fs) (has_either n (Some c) (Some t)) (is_open r) R → IsRest U (under n ds) (case_away n) (is_open r) R
+          by : (R : Option Typed) → IsRest U (under n fs) (has_either n (Some c) (Some t)) case_opened R → IsRest U (under n ds) (case_away n) case_opened R
           by None h = tt
           by (Some w) h =
               let s = split_or (same_name n c.0) (has n (case_of (Some c) (Some t))) h.1 in
               (none-there (under n ds) (sym (ap (has n) case_is) ∙ s.1), neither (has n fs) (same_name n c.0) (ap is_some h.0) s.0, h.2, h.3)
 
-      case_setting : Setting U P (is_open r) case_away case_scope case_moving
+      case_setting : Setting U P case_opened case_away case_scope case_moving
       case_setting = record {
         fields_ascend = case_ascends case_record q.is_record t.1 ds e;
         slots_ascend = q.cased_ascend;
@@ -224,22 +227,26 @@ module _ (U : Typed → Type 0) (P : List ℕ → Typed → Type 0) where
 
       -- the record with other fields in that case
       abbrev with_case : List Field → template.RecordParts
-      with_case gs = record { fields = fs; choice = Some (c.0, put t.1 gs c.1); rest = r }
+      with_case gs = record { fields = fs; choice = Some (c.0, put t.1 gs c.1, c.2); rest = r }
 
       case_now : (gs : List Field) → under t.1 (put t.1 gs c.1) ≡ Some gs
       case_now gs = under-put t.1 gs c.1 t.1 ∙ ap (λ b. if b then Some gs else under t.1 c.1) (same_name_itself t.1)
 
+      -- the tag is a literal before and after
+      case_opened_still : (gs : List Field) → case_opened ≡ opened (with_case gs) (Some t)
+      case_opened_still gs = ap (λ b. is_open r || not b) (literal_is t.1 c.1 ∙ ap is_some e ∙ sym (literal_is t.1 (put t.1 gs c.1) ∙ ap is_some (case_now gs)))
+
       pub case_becomes : (op : FieldOp) (gs : List Field) → new_fields op r case_scope ≡ Some gs
           → Becomes U P (with_case gs) (with_moving_case case_value (move op ds case_moving)) (edit op ds (pairs_of_record case_value))
       case_becomes op gs h =
-          let n = op_settled U P (is_open r) case_away case_elsewhere case_scope case_moving (pairs_of_record case_value) case_setting case_map r refl
+          let n = op_settled U P case_opened case_away case_elsewhere case_scope case_moving (pairs_of_record case_value) case_setting case_map r (ap (λ b. b || has_unknown_tag (choice_of (Some c)) (Some t)))
           (record { templates = q.case_templates t.1 ds e; values = λ x w k. (q.case_values x w k).0; any = λ x w k. (q.case_values x w k).1 }) op gs h in
           let w = with_moving_case case_value (move op ds case_moving) in
           let d = distinct_of case_record q.is_record (Some t) in
           let is : case_of (with_case gs).choice (Some t) ≡ gs = ap (λ (F : Option (List Field)). unwrap_or F []) (case_now gs) in
           record {
             stand = record {
-              tag = (q.stand.tag.0, literal_is t.1 (put t.1 gs c.1) ∙ ap is_some (case_now gs));
+              tag = (q.stand.tag.0, ap (λ b. b || c.2) (literal_is t.1 (put t.1 gs c.1) ∙ ap is_some (case_now gs)));
               fields = q.stand.fields;
               cased = λ k. subst (λ l. Stands U P (under k l) (under k w.cased)) (sym is) (n.setting.stand k);
               rest = λ k. rests gs (move op ds case_moving) is k (under k w.rest) (n.setting.rests k);
@@ -257,22 +264,22 @@ module _ (U : Typed → Type 0) (P : List ℕ → Typed → Type 0) where
                 (λ k. under_record w k ∙ (again gs (move op ds case_moving) n.setting k (under k w.cased) refl ∙ sym (n.map.at k)));
           }
         where
-          rests : (gs : List Field) (m : Moving) → case_of (Some (c.0, put t.1 gs c.1)) (Some t) ≡ gs → (k : List ℕ) (R : Option Typed) → IsRest U (under k gs) (case_away k) (is_open r) R
-              → IsRest U (under k fs) (has_either k (Some (c.0, put t.1 gs c.1)) (Some t)) (is_open r) R
+          rests : (gs : List Field) (m : Moving) → case_of (Some (c.0, put t.1 gs c.1, c.2)) (Some t) ≡ gs → (k : List ℕ) (R : Option Typed) → IsRest U (under k gs) (case_away k) case_opened R
+              → IsRest U (under k fs) (has_either k (Some (c.0, put t.1 gs c.1, c.2)) (Some t)) (opened (with_case gs) (Some t)) R
           rests gs m is k None h = tt
           rests gs m is k (Some x) h =
               let s = split_or (has k fs) (same_name k c.0) h.1 in
-              (none-there (under k fs) s.0, neither (same_name k c.0) (has k (case_of (Some (c.0, put t.1 gs c.1)) (Some t))) s.1 (ap (has k) is ∙ ap is_some h.0), h.2, h.3)
+              (none-there (under k fs) s.0, neither (same_name k c.0) (has k (case_of (Some (c.0, put t.1 gs c.1, c.2)) (Some t))) s.1 (ap (has k) is ∙ ap is_some h.0), subst IsTrue (case_opened_still gs) h.2, h.3)
 
-          fields : (gs : List Field) → case_of (Some (c.0, put t.1 gs c.1)) (Some t) ≡ gs → ((x : List ℕ) → has x gs ≡ true → case_away x ≡ false) → (k : List ℕ) → has k fs ≡ true
-              → has_either k (Some (c.0, put t.1 gs c.1)) (Some t) ≡ false
+          fields : (gs : List Field) → case_of (Some (c.0, put t.1 gs c.1, c.2)) (Some t) ≡ gs → ((x : List ℕ) → has x gs ≡ true → case_away x ≡ false) → (k : List ℕ) → has k fs ≡ true
+              → has_either k (Some (c.0, put t.1 gs c.1, c.2)) (Some t) ≡ false
           fields gs is a k h =
               let d = distinct_of case_record q.is_record (Some t) in
               let s = split_or (same_name k c.0) (has k (case_of (Some c) (Some t))) (d.fields k h) in
-              neither (same_name k c.0) (has k (case_of (Some (c.0, put t.1 gs c.1)) (Some t))) s.0
+              neither (same_name k c.0) (has k (case_of (Some (c.0, put t.1 gs c.1, c.2)) (Some t))) s.0
               (ap (has k) is ∙ not_true (has k gs) (λ l. true≢false (sym h ∙ (split_or (has k fs) (same_name k c.0) (a k l)).0)))
 
-          again : (gs : List Field) (m : Moving) → Setting U P (is_open r) case_away (record case_scope { fields = gs }) m → (k : List ℕ) (S : Option Typed) → under k m.slots ≡ S
+          again : (gs : List Field) (m : Moving) → Setting U P case_opened case_away (record case_scope { fields = gs }) m → (k : List ℕ) (S : Option Typed) → under k m.slots ≡ S
               → first (option_map out (under k vf)) (first (under k (tag_pair (Some t))) (first (option_map out S) (option_map out (under k m.rest)))) ≡ first (option_map out S) (first (case_elsewhere k) (option_map out (under k m.rest)))
           again gs m a k None h = sym (first-assoc (option_map out (under k vf)) (under k (tag_pair (Some t))) (option_map out (under k m.rest)))
           again gs m a k (Some w) h =
@@ -286,25 +293,31 @@ module _ (U : Typed → Type 0) (P : List ℕ → Typed → Type 0) where
               by (Some f) (Some x) k s = refl
 
     -- ---- another choice in which the tag's case is the same
-    module _ (q : Suits U P case_record case_value) (cs : List template.Case) (l : List ℕ) (same : unwrap_or (under l cs) [] ≡ case_of (Some c) (Some t)) (some : is_some (under l cs) ≡ true) where
+    module _ (q : Suits U P case_record case_value) (cs : List template.Case) (l : List ℕ) (same : unwrap_or (under l cs) [] ≡ case_of (Some c) (Some t)) (known : is_some (under l cs) ≡ is_some (under t.1 c.1)) where
       abbrev with_cases : template.RecordParts
-      with_cases = record { fields = fs; choice = Some (c.0, cs); rest = r }
+      with_cases = record { fields = fs; choice = Some (c.0, cs, c.2); rest = r }
 
       abbrev with_literal : value.RecordParts
       with_literal = record { fields = vf; tag = Some (t.0, l); cased = vc; rest = vr }
 
-      either_same : (k : List ℕ) → has_either k (Some c) (Some t) ≡ has_either k (Some (c.0, cs)) (Some (t.0, l))
+      either_same : (k : List ℕ) → has_either k (Some c) (Some t) ≡ has_either k (Some (c.0, cs, c.2)) (Some (t.0, l))
       either_same k = ap (λ ds. same_name k c.0 || has k ds) (sym same)
+
+      literal_same : has_literal l (cases_of cs) ≡ has_literal t.1 (cases_of c.1)
+      literal_same = literal_is l cs ∙ known ∙ sym (literal_is t.1 c.1)
+
+      opened_same : case_opened ≡ opened with_cases (Some (t.0, l))
+      opened_same = ap (λ b. is_open r || not b) (sym literal_same)
 
       pub choice_becomes : (es : Entries) → pairs_of_record with_literal ≡ es → Becomes U P with_cases with_literal es
       choice_becomes es m =
           let d = distinct_of case_record q.is_record (Some t) in
           record {
             stand = record {
-              tag = (q.stand.tag.0, literal_is l cs ∙ some);
+              tag = (q.stand.tag.0, ap (λ b. b || c.2) literal_same ∙ q.stand.tag.1);
               fields = q.stand.fields;
               cased = λ k. subst (λ ds. Stands U P (under k ds) (under k vc)) (sym same) (q.stand.cased k);
-              rest = λ k. subst (λ b. IsRest U (under k fs) b (is_open r) (under k vr)) (either_same k) (q.stand.rest k);
+              rest = λ k. subst (λ b. IsRest U (under k fs) (has_either k (Some (c.0, cs, c.2)) (Some (t.0, l))) b (under k vr)) opened_same (subst (λ b. IsRest U (under k fs) b case_opened (under k vr)) (either_same k) (q.stand.rest k));
             };
             distinct = record {
               fields = λ k h. sym (either_same k) ∙ d.fields k h;

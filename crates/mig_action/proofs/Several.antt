@@ -224,13 +224,13 @@ module _ (U : Typed → Type 0) (P : List ℕ → Typed → Type 0) (opened : Bo
                 tree = λ n l.
                     ap (under n) (gone (Some (typed.rec fs tag cs rs)) k ∙ (ap (λ v. pairs_in (Some (out v))) e ∙ entries_again (pairs_of_record w)))
                     ∙ (under_record w n
-                    ∙ (alone n tag (slots cs) (under n (slots fs)) (under n (slots rs)) a.tag (a.cased n) (unknown (under n gs) (has_either n None tag) (under n (slots rs)) l (a.rest n))
+                    ∙ (alone n tag (slots cs) (under n (slots fs)) (under n (slots rs)) a.tag (a.cased n) (unknown (under n gs) (has_either n None tag) (is_open r || false) (under n (slots rs)) l (a.rest n))
                     ∙ sym (ap (λ (S : Option Typed). option_map out (under n (inner_slots S))) k)));
               }
             where
-              unknown : (F : Option (Presence × Template)) (b : Bool) (R : Option Typed) → is_some F ≡ true → IsRest U F b (is_open r) R → R ≡ None
-              unknown F b None l c = refl
-              unknown F b (Some v) l c = absurd (true≢false (sym l ∙ ap is_some c.0))
+              unknown : (F : Option (Presence × Template)) (b o : Bool) (R : Option Typed) → is_some F ≡ true → IsRest U F b o R → R ≡ None
+              unknown F b o None l c = refl
+              unknown F b o (Some v) l c = absurd (true≢false (sym l ∙ ap is_some c.0))
 
               nothing : (S : Option Typed) → Stands U P None S → S ≡ None
               nothing None c = refl

@@ -13,7 +13,7 @@ use Rattle.mig_template.proofs.Views.{field_list_of}
 use Rattle.mig_value.specs.Typed.{Typed, Slot, Tag, slots_of, out, out_slots}
 use Rattle.mig_value.specs.Parts as value
 use Rattle.mig_value.specs.Parts.{record_of}
-use Rattle.mig_value.specs.Fit.{Fits, FieldsFit, CasesFit, ChoiceFits, EachSlot, TagFits, IsUnknown, has_literal, has_case_musts, has_cased_musts, is_field_of_case, is_cased}
+use Rattle.mig_value.specs.Fit.{Fits, FieldsFit, CasesFit, ChoiceFits, EachSlot, TagFits, IsUnknown, has_literal, has_case_musts, has_cased_musts, has_unknown_tag, is_field_of_case, is_cased}
 use Rattle.mig_laws.proofs.Tests.{split_and, both_true, split_or, same_name_is}
 use Rattle.mig_action.specs.Edits.{under, has}
 use Rattle.mig_action.specs.NewRecord.{is_tag}
@@ -39,11 +39,15 @@ case_of c (Some t) = unwrap_or (found_case t.1 c) []
 abbrev pub has_either : List ℕ → Option template.Cases → Option Tag → Bool
 has_either n c tag = is_tag n c || has n (case_of c tag)
 
+-- unknown names may stand there: the rest is open, or the tag's text is no literal
+abbrev pub opened : RecordParts → Option Tag → Bool
+opened p tag = is_open p.rest || has_unknown_tag (choice_of p.choice) tag
+
 pub record RecordStands (U : Typed → Type 0) (P : List ℕ → Typed → Type 0) (p : RecordParts) (v : value.RecordParts) : Type 0 where
   pub tag : TagFits (choice_of p.choice) v.tag
   pub fields : (n : List ℕ) → Stands U P (under n p.fields) (under n v.fields)
   pub cased : (n : List ℕ) → Stands U P (under n (case_of p.choice v.tag)) (under n v.cased)
-  pub rest : (n : List ℕ) → IsRest U (under n p.fields) (has_either n p.choice v.tag) (is_open p.rest) (under n v.rest)
+  pub rest : (n : List ℕ) → IsRest U (under n p.fields) (has_either n p.choice v.tag) (opened p v.tag) (under n v.rest)
 
 -- ---- slots by their names
 module _ (Q : List ℕ → Typed → Type 0) where
@@ -115,13 +119,13 @@ literal_is l (c ∷ cs) = by (same_name l c.0) (literal_is l cs)
     by true rest = refl
     by false rest = rest
 
-case_musts : (l : List ℕ) (cs : List template.Case) (es : Entries) → has_literal l (cases_of cs) ≡ true → has_case_musts l (cases_of cs) es ≡ has_musts (fields_of (in_case (under l cs))) es
-case_musts l [] es h = absurd (true≢false (sym h))
-case_musts l (c ∷ cs) es h = by (same_name l c.0) (case_musts l cs es) h
+case_musts : (l : List ℕ) (cs : List template.Case) (es : Entries) → has_case_musts l (cases_of cs) es ≡ has_musts (fields_of (in_case (under l cs))) es
+case_musts l [] es = refl
+case_musts l (c ∷ cs) es = by (same_name l c.0) (case_musts l cs es)
   where
-    by : (b : Bool) → (has_literal l (cases_of cs) ≡ true → has_case_musts l (cases_of cs) es ≡ has_musts (fields_of (in_case (under l cs))) es) → (b || has_literal l (cases_of cs)) ≡ true → (if b then has_musts (fields_of c.1) es else has_case_musts l (cases_of cs) es) ≡ has_musts (fields_of (in_case (if b then Some c.1 else under l cs))) es
-    by true rest k = refl
-    by false rest k = rest k
+    by : (b : Bool) → has_case_musts l (cases_of cs) es ≡ has_musts (fields_of (in_case (under l cs))) es → (if b then has_musts (fields_of c.1) es else has_case_musts l (cases_of cs) es) ≡ has_musts (fields_of (in_case (if b then Some c.1 else under l cs))) es
+    by true rest = refl
+    by false rest = rest
 
 pub field_is : (n : List ℕ) (fs : List Field) → is_field n (fields_of fs) ≡ has n fs
 field_is n fs = ap (has n) (field_list_of fs)
@@ -245,7 +249,7 @@ module _ (U : Typed → Type 0) (P : List ℕ → Typed → Type 0) where
       by None k = tt
       by (Some v) k = each_under (λ n v. ⊥) ss e n v k
   cased_stands (Some c) (Some t) ss h m e n =
-      scope_stands U P (in_case (under t.1 c.1)) ss (sym (case_musts t.1 c.1 (out_slots (slots_of ss)) h.1) ∙ m)
+      scope_stands U P (in_case (under t.1 c.1)) ss (sym (case_musts t.1 c.1 (out_slots (slots_of ss))) ∙ m)
       (under_each_map ss e) n
     where
       under_each_map : (rs : List Slot) → EachSlot (CasesFit U P t.1 (cases_of c.1)) (slots_of rs) → EachSlot (FieldsFit U P (fields_of (in_case (under t.1 c.1)))) (slots_of rs)
@@ -265,7 +269,7 @@ module _ (U : Typed → Type 0) (P : List ℕ → Typed → Type 0) where
       Unknown : List ℕ → Typed → Type 0
       Unknown = IsUnknown U (fields_of p.fields) (choice_of p.choice) v.tag p.rest
 
-      rest : (n : List ℕ) (R : Option Typed) → under n v.rest ≡ R → IsRest U (under n p.fields) (has_either n p.choice v.tag) (is_open p.rest) R
+      rest : (n : List ℕ) (R : Option Typed) → under n v.rest ≡ R → IsRest U (under n p.fields) (has_either n p.choice v.tag) (opened p v.tag) R
       rest n None k = tt
       rest n (Some w) k =
           let u : Unknown n w = each_under Unknown v.rest h.4 n w k in
@@ -288,7 +292,7 @@ module _ (U : Typed → Type 0) (P : List ℕ → Typed → Type 0) where
   cased_has None None ss h s e = refl
   cased_has None (Some t) ss h s e = absurd h
   cased_has (Some c) None ss h s e = absurd h
-  cased_has (Some c) (Some t) ss h s e = case_musts t.1 c.1 (out_slots (slots_of ss)) h.1 ∙ stands_musts U P (in_case (under t.1 c.1)) ss s e
+  cased_has (Some c) (Some t) ss h s e = case_musts t.1 c.1 (out_slots (slots_of ss)) ∙ stands_musts U P (in_case (under t.1 c.1)) ss s e
 
   pub stand_fits : (p : RecordParts) (v : value.RecordParts) → Ascends p.fields → Ascends (case_of p.choice v.tag) → Ascends v.fields → Ascends v.cased → Ascends v.rest → RecordStands U P p v
       → Fits U P (template.record_of p) (record_of v)
@@ -298,7 +302,7 @@ module _ (U : Typed → Type 0) (P : List ℕ → Typed → Type 0) where
         (stands_musts U P p.fields v.fields pf h.fields) (cased_has p.choice v.tag v.cased h.tag pc h.cased),
     stands_fit U P p.fields v.fields vf h.fields,
     cased_fit p.choice v.tag v.cased h.tag vc h.cased,
-    under_each Unknown v.rest vr (λ n w k. unknown n w (subst (IsRest U (under n p.fields) (has_either n p.choice v.tag) (is_open p.rest)) k (h.rest n))),
+    under_each Unknown v.rest vr (λ n w k. unknown n w (subst (IsRest U (under n p.fields) (has_either n p.choice v.tag) (opened p v.tag)) k (h.rest n))),
   )
     where
       Unknown : List ℕ → Typed → Type 0
@@ -308,7 +312,7 @@ module _ (U : Typed → Type 0) (P : List ℕ → Typed → Type 0) where
       neither true b k l = absurd (true≢false k)
       neither false b k l = l
 
-      unknown : (n : List ℕ) (w : Typed) → IsRest U (under n p.fields) (has_either n p.choice v.tag) (is_open p.rest) (Some w) → Unknown n w
+      unknown : (n : List ℕ) (w : Typed) → IsRest U (under n p.fields) (has_either n p.choice v.tag) (opened p v.tag) (Some w) → Unknown n w
       unknown n w k = (
         neither (is_field n (fields_of p.fields)) (is_cased n (choice_of p.choice) v.tag) (field_is n p.fields ∙ is_none (under n p.fields) k.0) (cased_is n p.choice v.tag h.tag ∙ k.1),
         k.2,

@@ -6,12 +6,13 @@ use Rattle.mig_model.specs.declared.rest.Rest.{Rest}
 use Rattle.mig_model.specs.Plain as plain
 use Rattle.mig_model.specs.Plain.{Plain}
 use Rattle.mig_model.specs.Names.{found}
-use Rattle.mig_model.specs.Template.{Template, Field, same_name}
+use Rattle.mig_model.specs.Template.{Template, Field, cases_of, same_name}
 use Rattle.mig_model.specs.Fields.{is_in_choice}
 use Rattle.mig_model.specs.Inhabits.{has_tag, is_text}
 use Rattle.mig_template.specs.Parts as template
 use Rattle.mig_template.specs.Parts.{choice_of, found_case}
 use Rattle.mig_value.specs.Typed.{Typed, Slot, Tag, out, tag_pair}
+use Rattle.mig_value.specs.Fit.{has_literal}
 use Rattle.mig_value.specs.Parts as value
 use Rattle.mig_laws.proofs.Tests.{split_and, split_or, same_name_is, same_name_itself}
 use Rattle.mig_action.specs.Edits.{under, has, put, put_all, moved}
@@ -65,25 +66,30 @@ module _ (U : Typed → Type 0) (P : List ℕ → Typed → Type 0) where
       tag_test : (l : List ℕ) → has_tag c.0 l (pairs_of_record v) ≡ same_name t.1 l
       tag_test l = ap (is_text l) tag_there
 
-      literal_there : has t.1 c.1 ≡ true
-      literal_there = sym (literal_is t.1 c.1) ∙ q.stand.tag.1
+      -- where no unknown tag is kept, the tag is a literal
+      literal_there : c.2 ≡ false → has t.1 c.1 ≡ true
+      literal_there strict = sym (literal_is t.1 c.1) ∙ left_of (has_literal t.1 (cases_of c.1)) (sym (ap (λ b. has_literal t.1 (cases_of c.1) || b) strict) ∙ q.stand.tag.1)
+        where
+          left_of : (b : Bool) → (b || false) ≡ true → b ≡ true
+          left_of true h = refl
+          left_of false h = h
 
       -- ---- a function on the fields of a case
       module _ (op : FieldOp) (l : List ℕ) (ds gs : List Field) (new : new_fields op rest (record { fields = ds; taken = λ n. has n fs || same_name n c.0 }) ≡ Some gs) where
         abbrev r : template.RecordParts
-        r = record { fields = fs; choice = Some (c.0, put l gs c.1); rest = rest }
+        r = record { fields = fs; choice = Some (c.0, put l gs c.1, c.2); rest = rest }
 
         abbrev m : Moving
         m = record { slots = vc; rest = vr }
 
         case_there : t.1 ≡ l → under l c.1 ≡ Some ds → Becomes U P r (with_moving_case v (move op ds m)) (edit op ds (pairs_of_record v))
-        case_there e k = subst (λ j. Becomes U P (record { fields = fs; choice = Some (c.0, put j gs c.1); rest = rest }) (with_moving_case v (move op ds m)) (edit op ds (pairs_of_record v))) e
+        case_there e k = subst (λ j. Becomes U P (record { fields = fs; choice = Some (c.0, put j gs c.1, c.2); rest = rest }) (with_moving_case v (move op ds m)) (edit op ds (pairs_of_record v))) e
             (case_becomes U P fs c rest vf t vc vr q ds (ap (λ j. under j c.1) e ∙ k) op gs new)
 
         other_case : same_name t.1 l ≡ false → Becomes U P r v (pairs_of_record v)
         other_case e =
             let now : under t.1 (put l gs c.1) ≡ under t.1 c.1 = under-put l gs c.1 t.1 ∙ ap (λ b. if b then Some gs else under t.1 c.1) e in
-            choice_becomes U P fs c rest vf t vc vr q (put l gs c.1) t.1 (ap (λ (F : Option (List Field)). unwrap_or F []) now) (ap is_some now ∙ literal_there) (pairs_of_record v) refl
+            choice_becomes U P fs c rest vf t vc vr q (put l gs c.1) t.1 (ap (λ (F : Option (List Field)). unwrap_or F []) now) (ap is_some now) (pairs_of_record v) refl
 
         case_at : under l c.1 ≡ Some ds
             → Becomes U P r (if is_literal l (Some t) then with_moving_case v (move op (unwrap_or (found_case l (Some c)) []) m) else v) (edit_case op l p (Some c) (pairs_of_record v))
@@ -96,9 +102,9 @@ module _ (U : Typed → Type 0) (P : List ℕ → Typed → Type 0) where
             by false e es is = other_case e
 
       -- ---- another literal
-      module _ (a b : List ℕ) (there : has a c.1 ≡ true) (free : has b c.1 ≡ false) where
+      module _ (a b : List ℕ) (strict : c.2 ≡ false) (there : has a c.1 ≡ true) (free : has b c.1 ≡ false) where
         abbrev retagged_record : template.RecordParts
-        retagged_record = record { fields = fs; choice = Some (c.0, moved a b c.1); rest = rest }
+        retagged_record = record { fields = fs; choice = Some (c.0, moved a b c.1, c.2); rest = rest }
 
         abbrev retagged_value : List ℕ → value.RecordParts
         retagged_value l = record { fields = vf; tag = Some (t.0, l); cased = vc; rest = vr }
@@ -110,7 +116,7 @@ module _ (U : Typed → Type 0) (P : List ℕ → Typed → Type 0) where
         its_tag e =
             let now : under b (moved a b c.1) ≡ under a c.1 = now_at b ∙ ap (λ x. if x then under a c.1 else (if same_name b a then None else under b c.1)) (same_name_itself b) in
             let old : under a c.1 ≡ under t.1 c.1 = ap (λ j. under j c.1) (sym (same_name_is t.1 a e)) in
-            choice_becomes U P fs c rest vf t vc vr q (moved a b c.1) b (ap (λ (F : Option (List Field)). unwrap_or F []) (now ∙ old)) (ap is_some now ∙ there) (put c.0 (plain.text b) (pairs_of_record v))
+            choice_becomes U P fs c rest vf t vc vr q (moved a b c.1) b (ap (λ (F : Option (List Field)). unwrap_or F []) (now ∙ old)) (ap is_some (now ∙ old)) (put c.0 (plain.text b) (pairs_of_record v))
             (same_under (pairs_of_record (retagged_value b)) (put c.0 (plain.text b) (pairs_of_record v)) (ascends-in_order (pairs_by_list (retagged_value b))) (ascends-put c.0 (plain.text b) (pairs_of_record v) (ascends-in_order (pairs_by_list v)))
             (λ n. under_record (retagged_value b) n ∙ (same n (same_name n c.0) refl ∙ sym (under-put c.0 (plain.text b) (pairs_of_record v) n))))
           where
@@ -127,9 +133,9 @@ module _ (U : Typed → Type 0) (P : List ℕ → Typed → Type 0) where
 
         other_tag : same_name t.1 a ≡ false → Becomes U P retagged_record v (pairs_of_record v)
         other_tag e =
-            let new : same_name t.1 b ≡ false = not_true (same_name t.1 b) (λ k. true≢false (sym literal_there ∙ (ap (λ j. has j c.1) (same_name_is t.1 b k) ∙ free))) in
+            let new : same_name t.1 b ≡ false = not_true (same_name t.1 b) (λ k. true≢false (sym (literal_there strict) ∙ (ap (λ j. has j c.1) (same_name_is t.1 b k) ∙ free))) in
             let now : under t.1 (moved a b c.1) ≡ under t.1 c.1 = now_at t.1 ∙ (λ i. if new i then under a c.1 else (if e i then None else under t.1 c.1)) in
-            choice_becomes U P fs c rest vf t vc vr q (moved a b c.1) t.1 (ap (λ (F : Option (List Field)). unwrap_or F []) now) (ap is_some now ∙ literal_there) (pairs_of_record v) refl
+            choice_becomes U P fs c rest vf t vc vr q (moved a b c.1) t.1 (ap (λ (F : Option (List Field)). unwrap_or F []) now) (ap is_some now) (pairs_of_record v) refl
 
         retag_at : Becomes U P retagged_record (record v { tag = Some (retag_to a b t) }) (with_tag a b (Some c) (pairs_of_record v))
         retag_at =
@@ -141,11 +147,11 @@ module _ (U : Typed → Type 0) (P : List ℕ → Typed → Type 0) where
             by false e = other_tag e
 
       -- ---- one more case
-      one_case_more : (b : List ℕ) (ds : List Field) → has b c.1 ≡ false → Becomes U P (record { fields = fs; choice = Some (c.0, put b ds c.1); rest = rest }) v (pairs_of_record v)
-      one_case_more b ds free =
-          let new : same_name t.1 b ≡ false = not_true (same_name t.1 b) (λ k. true≢false (sym literal_there ∙ (ap (λ j. has j c.1) (same_name_is t.1 b k) ∙ free))) in
+      one_case_more : (b : List ℕ) (ds : List Field) → c.2 ≡ false → has b c.1 ≡ false → Becomes U P (record { fields = fs; choice = Some (c.0, put b ds c.1, c.2); rest = rest }) v (pairs_of_record v)
+      one_case_more b ds strict free =
+          let new : same_name t.1 b ≡ false = not_true (same_name t.1 b) (λ k. true≢false (sym (literal_there strict) ∙ (ap (λ j. has j c.1) (same_name_is t.1 b k) ∙ free))) in
           let now : under t.1 (put b ds c.1) ≡ under t.1 c.1 = under-put b ds c.1 t.1 ∙ ap (λ x. if x then Some ds else under t.1 c.1) new in
-          choice_becomes U P fs c rest vf t vc vr q (put b ds c.1) t.1 (ap (λ (F : Option (List Field)). unwrap_or F []) now) (ap is_some now ∙ literal_there) (pairs_of_record v) refl
+          choice_becomes U P fs c rest vf t vc vr q (put b ds c.1) t.1 (ap (λ (F : Option (List Field)). unwrap_or F []) now) (ap is_some now) (pairs_of_record v) refl
 
   -- what becomes of a value by a function on the fields of a case
   module _ (op : FieldOp) (l : List ℕ) (fs : List Field) (C : Option template.Cases) (rest : Rest) (vf : List Slot) (T : Option Tag) (vc vr : List Slot) where
@@ -188,11 +194,12 @@ module _ (U : Typed → Type 0) (P : List ℕ → Typed → Type 0) where
   choice_any a b fs (Some c) rest vf None vc vr r q h = absurd q.stand.tag
   choice_any a b fs (Some c) rest vf (Some t) vc vr r q h =
       let m = mapped (with_cases (record { fields = fs; choice = Some c; rest = rest })) (retagged a b c) r h in
-      let s = so (has a c.1 && not (has b c.1)) (c.0, moved a b c.1) m.0 m.1 in
-      let k = split_and (has a c.1) (not (has b c.1)) s.0 in
+      let s = so (has a c.1 && (not (has b c.1) && not c.2)) (c.0, moved a b c.1, c.2) m.0 m.1 in
+      let k = split_and (has a c.1) (not (has b c.1) && not c.2) s.0 in
+      let l = split_and (not (has b c.1)) (not c.2) k.1 in
       subst (λ x. Becomes U P x (record { fields = vf; tag = Some (retag_to a b t); cased = vc; rest = vr }) (with_tag a b (Some c) (pairs_of_record (record { fields = vf; tag = Some t; cased = vc; rest = vr }))))
       (ap (with_cases (record { fields = fs; choice = Some c; rest = rest })) s.1 ∙ m.2)
-      (retag_at fs c rest vf t vc vr q a b k.0 (not-true (has b c.1) k.1))
+      (retag_at fs c rest vf t vc vr q a b (not-true c.2 l.1) k.0 (not-true (has b c.1) l.0))
 
   case_more : (b : List ℕ) (gs : List Field) (fs : List Field) (C : Option template.Cases) (rest : Rest) (vf : List Slot) (T : Option Tag) (vc vr : List Slot) (r : template.RecordParts)
       → Suits U P (record { fields = fs; choice = C; rest = rest }) (record { fields = vf; tag = T; cased = vc; rest = vr })
@@ -202,11 +209,12 @@ module _ (U : Typed → Type 0) (P : List ℕ → Typed → Type 0) where
   case_more b gs fs (Some c) rest vf None vc vr r q h = absurd q.stand.tag
   case_more b gs fs (Some c) rest vf (Some t) vc vr r q h =
       let m = mapped (with_cases (record { fields = fs; choice = Some c; rest = rest })) (with_case b gs fs c) r h in
-      let s = so (not (has b c.1) && can_be_case gs fs c) (c.0, put b (put_all gs []) c.1) m.0 m.1 in
-      let k = split_and (not (has b c.1)) (can_be_case gs fs c) s.0 in
+      let s = so (not (has b c.1) && (can_be_case gs fs c && not c.2)) (c.0, put b (put_all gs []) c.1, c.2) m.0 m.1 in
+      let k = split_and (not (has b c.1)) (can_be_case gs fs c && not c.2) s.0 in
+      let l = split_and (can_be_case gs fs c) (not c.2) k.1 in
       subst (λ x. Becomes U P x (record { fields = vf; tag = Some t; cased = vc; rest = vr }) (pairs_of_record (record { fields = vf; tag = Some t; cased = vc; rest = vr })))
       (ap (with_cases (record { fields = fs; choice = Some c; rest = rest })) s.1 ∙ m.2)
-      (one_case_more fs c rest vf t vc vr q b (put_all gs []) (not-true (has b c.1) k.0))
+      (one_case_more fs c rest vf t vc vr q b (put_all gs []) (not-true c.2 l.1) (not-true (has b c.1) k.0))
 
   no_new : {A : Type 0} (o : Option A) (p r : template.RecordParts) → option_and_then (λ s. None) o ≡ Some r → ⊥
   no_new None p r h = let e : None ≡ Some r = h in cc

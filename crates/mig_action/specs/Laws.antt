@@ -15,7 +15,8 @@ use Rattle.mig_action.specs.FieldFn.{FieldFn}
 use Rattle.mig_action.specs.NewRecord.{new_record}
 use Rattle.mig_action.specs.Act.{act}
 use Rattle.mig_action.specs.Moves.{apply}
-use Rattle.mig_action.specs.Nodes.{nodes_at, nodes_named}
+use Rattle.mig_action.specs.Nodes.{nodes_at}
+use Rattle.mig_value.specs.Nodes.{Test, nodes}
 
 -- the function fits the record p and makes r of it, and v has the shape of p; all keep what records and values keep
 pub record Applies (f : FieldFn) (p r : template.RecordParts) (v : value.RecordParts) : Type 0 where
@@ -46,9 +47,9 @@ FitStays = Always (λ f p r v.
 abbrev pub NodesStay : Type 0
 NodesStay = Always (λ f p r v. AllByRecursion (Contains (nodes_at (template.record_of p) (value.record_of v))) (nodes_at (template.record_of r) (value.record_of (apply f p v))))
 
--- there are at most as many nodes of each name
+-- for every test there are at most as many nodes whose name passes
 abbrev pub NoMoreNodes : Type 0
-NoMoreNodes = Always (λ f p r v. (x : List ℕ) → nodes_named x (value.record_of (apply f p v)) ≤ nodes_named x (value.record_of v))
+NoMoreNodes = Always (λ f p r v. (q : Test) → nodes q (value.record_of (apply f p v)) ≤ nodes q (value.record_of v))
 
 -- no two names of the answer are equal, and its lists ascend
 abbrev pub PartsStay : Type 0

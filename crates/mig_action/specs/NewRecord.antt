@@ -35,7 +35,7 @@ scoped (in_case l) p = option_map (λ fs. record { fields = fs; taken = λ n. ha
 -- the record with other fields in the scope
 abbrev pub with_fields : Scope → List Field → RecordParts → RecordParts
 with_fields common fs p = record p { fields = fs }
-with_fields (in_case l) fs p = record p { choice = option_map (λ c. (c.0, put l fs c.1)) p.choice }
+with_fields (in_case l) fs p = record p { choice = option_map (λ c. (c.0, put l fs c.1, c.2)) p.choice }
 
 abbrev pub is_free : Scoped → List ℕ → Bool
 is_free s n = not (has n s.fields) && not (s.taken n)
@@ -129,16 +129,16 @@ new_fields (add_case b fs) r s = None
 abbrev pub with_cases : RecordParts → Cases → RecordParts
 with_cases p c = record p { choice = Some c }
 
--- the case of a has the literal b
+-- the case of a has the literal b; a choice that keeps unknown tags isn't retagged
 abbrev pub retagged : List ℕ → List ℕ → Cases → Option Cases
-retagged a b c = if_so (has a c.1 && not (has b c.1)) (c.0, moved a b c.1)
+retagged a b c = if_so (has a c.1 && (not (has b c.1) && not c.2)) (c.0, moved a b c.1, c.2)
 
--- the names of the new case are distinct and no others' of the record, and its sums are clear
+-- the names of the new case are distinct and no others' of the record, and its sums are clear; a choice that keeps unknown tags gets no new case
 abbrev pub can_be_case : List Field → List Field → Cases → Bool
 can_be_case fs shared c = not (has_twice (keys_of fs ++ c.0 ∷ keys_of shared)) && list_all (λ f. is_clear f.1.1) fs
 
 abbrev pub with_case : List ℕ → List Field → List Field → Cases → Option Cases
-with_case b fs shared c = if_so (not (has b c.1) && can_be_case fs shared c) (c.0, put b (put_all fs []) c.1)
+with_case b fs shared c = if_so (not (has b c.1) && (can_be_case fs shared c && not c.2)) (c.0, put b (put_all fs []) c.1, c.2)
 
 -- the new record, or none where the function doesn't fit
 abbrev pub new_by : FieldOp → Scope → RecordParts → Option RecordParts

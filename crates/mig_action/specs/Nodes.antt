@@ -1,27 +1,9 @@
--- The nodes in a value: how many there are of a name, and which of them stand at points of a template.
-use Rattle.std.specs.Prelude.{ℕ, ◌+◌, List, [], ◌∷◌, ◌++◌, Option, Some, if◌then◌else◌}
+-- Which nodes of a value stand at points of a template.
+use Rattle.std.specs.Prelude.{ℕ, List, [], ◌∷◌, ◌++◌, Option, Some, if◌then◌else◌}
 use Rattle.mig_model.specs.Template as template
 use Rattle.mig_model.specs.Template.{Template, Fields, no_field, field, Choice, no_choice, choice, Cases, no_case, case, same_name}
-use Rattle.mig_value.specs.Typed.{Typed, atom, list, left, right, rec, point, Items, no_item, item, Slots, no_slot, slot, Tag}
+use Rattle.mig_value.specs.Typed.{Typed, list, left, right, rec, point, Items, no_item, item, Slots, no_slot, slot, Tag}
 use Rattle.mig_value.specs.Parts.{NodeParts}
-
--- how many nodes of the name there are, at all depths
-abbrev mutual
-  pub nodes_named : List ℕ → Typed → ℕ
-  nodes_named x (atom t) = 0
-  nodes_named x (list vs) = items_named x vs
-  nodes_named x (left v) = nodes_named x v
-  nodes_named x (right v) = nodes_named x v
-  nodes_named x (rec fs tag cs rs) = slots_named x fs + (slots_named x cs + slots_named x rs)
-  nodes_named x (point n v) = (if same_name x n then 1 else 0) + nodes_named x v
-
-  pub items_named : List ℕ → Items → ℕ
-  items_named x no_item = 0
-  items_named x (item v vs) = nodes_named x v + items_named x vs
-
-  pub slots_named : List ℕ → Slots → ℕ
-  slots_named x no_slot = 0
-  slots_named x (slot n v ss) = nodes_named x v + slots_named x ss
 
 -- the nodes in the items of a list, in the side of a sum, in the slots of a record
 abbrev pub of_items : (Typed → List NodeParts) → Items → List NodeParts
@@ -64,7 +46,7 @@ abbrev mutual
   nodes_in_fields (field x p V fs) n v = if same_name n x then nodes_at V v else nodes_in_fields fs n v
 
   pub nodes_in_choice : Choice → Option Tag → List ℕ → Typed → List NodeParts
-  nodes_in_choice (choice tag cs) (Some t) n v = nodes_in_cases t.1 cs n v
+  nodes_in_choice (choice tag cs kept) (Some t) n v = nodes_in_cases t.1 cs n v
   nodes_in_choice c t n v = []
 
   pub nodes_in_cases : List ℕ → Cases → List ℕ → Typed → List NodeParts

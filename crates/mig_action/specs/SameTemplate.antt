@@ -16,6 +16,11 @@ same_rest Open Open = true
 same_rest Closed Closed = true
 same_rest r s = false
 
+abbrev pub same_kept : Bool → Bool → Bool
+same_kept true true = true
+same_kept false false = true
+same_kept k l = false
+
 abbrev mutual
   pub same_template : Template → Template → Bool
   same_template (leaf a) (leaf b) = same_kind a b
@@ -33,7 +38,7 @@ abbrev mutual
 
   pub same_choice : Choice → Choice → Bool
   same_choice no_choice no_choice = true
-  same_choice (choice m cs) (choice n ds) = same_name m n && same_cases cs ds
+  same_choice (choice m cs k) (choice n ds l) = same_name m n && (same_cases cs ds && same_kept k l)
   same_choice c d = false
 
   pub same_cases : Cases → Cases → Bool

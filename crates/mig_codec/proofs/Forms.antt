@@ -1,8 +1,9 @@
 -- The form of a tree is that of its parts.
 use Rattle.std.proofs.Common.{◌≡◌, List, [], ◌∷◌, ◌++◌, map, true, sym, ap, ◌∙◌}
 use Rattle.mig_model.specs.declared.form.Form.{Form}
-use Rattle.mig_model.specs.Plain.{trees_of, pairs_of}
-use Rattle.mig_model.specs.Inhabits.{is_in_form, items_in_form, entries_in_form}
+use Rattle.mig_model.specs.Plain as plain
+use Rattle.mig_model.specs.Plain.{Plain, trees_of, pairs_of}
+use Rattle.mig_model.specs.Inhabits.{may_be_items, is_in_form, items_in_form, entries_in_form}
 use Rattle.mig_tree.specs.View.{plain_of, entry_of}
 use Rattle.mig_tree.specs.declared.tree.Tree.{Tree}
 use Rattle.mig_tree.specs.declared.entries.Entry.{Entry}
@@ -21,3 +22,7 @@ item_form form all xs x s e = item_of_form form xs s.0 x (sym (ap (λ (l : List 
 
 pub entry_form : (form : Form) (all xs : List Entry) (x : Entry) → (rest : List Entry) × (all ≡ xs ++ x ∷ rest) → entries_in_form form (pairs_of (map entry_of all)) ≡ true → is_in_form form (plain_of x.tree) ≡ true
 entry_form form all xs x s e = entry_of_form form xs s.0 x (sym (ap (λ (l : List Entry). entries_in_form form (pairs_of (map entry_of l))) s.1) ∙ e)
+
+-- the items of a list of the form
+pub list_form : (form : Form) (ts : List Plain) → is_in_form form (plain.list (trees_of ts)) ≡ true → items_in_form form (trees_of ts) ≡ true
+list_form form ts e = (split_and (may_be_items form (trees_of ts)) (items_in_form form (trees_of ts)) e).1

@@ -7,10 +7,12 @@ use Rattle.mig_model.specs.Template.{Template, fields_of, is_open}
 use Rattle.mig_model.specs.Family.{Family, body}
 use Rattle.mig_model.specs.Place.{wrong_item, wrong_entry}
 use Rattle.mig_value.specs.Typed.{Typed, items_of, slots_of, out_items, out_slots, tag_pair}
+use Rattle.mig_value.specs.Nodes.{Test, nodes_in_items, sum_items, sum_entries}
 use Rattle.mig_value.specs.Parts.{RecordParts}
 use Rattle.mig_value.specs.Fit.{EachItem, EachSlot, FieldsFit, FitAsRead, IsAtomOf}
-use Rattle.mig_codec.specs.Parted.{wrong_pair, is_tagged}
-use Rattle.mig_codec.specs.Reading.{IsTyped, wrong_part}
+use Rattle.mig_codec.specs.Lists.{record_nodes}
+use Rattle.mig_codec.specs.Parted.{wrong_pair, pair_nodes, is_tagged}
+use Rattle.mig_codec.specs.Reading.{IsTyped, wrong_part, part_nodes}
 use Rattle.mig_codec.specs.Row.{Row, Belongs, common, cased, unknown, belongs}
 use Rattle.std.specs.Prelude.{Bool, true, false}
 
@@ -19,6 +21,7 @@ pub record GatheredItems (f : Family) (V : Template) (ts : List Plain) (vs : Lis
   pub typed : EachItem (IsTyped f V) (items_of vs)
   pub trees : out_items (items_of vs) ≡ trees_of ts
   pub count : length vs ≡ length ts
+  pub counted : (q : Test) → nodes_in_items q (items_of vs) ≡ sum_items (part_nodes f q V) ts
 
 abbrev pub is_common : Belongs → Bool
 is_common (common V) = true
@@ -45,3 +48,4 @@ pub record Gathered (f : Family) (row : Row) (es : Entries) (p : RecordParts) : 
   pub fields_fit : EachSlot (FieldsFit (IsAtomOf f.form) (FitAsRead f.form (body f)) (fields_of row.fields)) (slots_of p.fields)
   pub cases_fit : EachSlot (FieldsFit (IsAtomOf f.form) (FitAsRead f.form (body f)) (fields_of row.cased)) (slots_of p.cased)
   pub others_fit : EachSlot (λ n v. (belongs row n ≡ unknown) × IsTrue (is_open row.rest) × IsAtomOf f.form v) (slots_of p.rest)
+  pub counted : (q : Test) → record_nodes q p ≡ sum_entries (pair_nodes f q row) es

@@ -1,5 +1,5 @@
 -- The items of a list, read one after another.
-use Rattle.std.proofs.Common.{◌≡◌, ℕ, suc, ◌+◌, List, [], ◌∷◌, ◌++◌, length, Option, Some, None, refl, sym, ap, ◌∙◌, arith, length-append}
+use Rattle.std.proofs.Common.{◌≡◌, ℕ, suc, ◌+◌, List, [], ◌∷◌, ◌++◌, length, Option, Some, None, refl, sym, ap, ap₂, ◌∙◌, arith, length-append}
 use Rattle.std.specs.Prelude.{option_map}
 use Rattle.mig_model.specs.Plain.{Plain}
 use Rattle.mig_model.specs.Template.{Template}
@@ -7,7 +7,8 @@ use Rattle.mig_model.specs.Family.{Family}
 use Rattle.mig_model.specs.Place.{Place, index, or_else, wrong_item}
 use Rattle.mig_value.specs.Typed.{Typed, items_of}
 use Rattle.mig_value.specs.Fit.{EachItem}
-use Rattle.mig_codec.specs.Reading.{IsRead, AreRead, IsTyped, wrong_part}
+use Rattle.mig_value.specs.Nodes.{Test, nodes, nodes_in_items, sum_items}
+use Rattle.mig_codec.specs.Reading.{IsRead, AreRead, IsTyped, wrong_part, part_nodes}
 use Rattle.mig_codec.proofs.Gathered.{GatheredItems}
 use Rattle.mig_codec.proofs.Loops.{item_more}
 
@@ -35,13 +36,23 @@ each_more : (Q : Typed → Type 0) (vs : List Typed) (v : Typed) → EachItem Q 
 each_more Q [] v e q = (q, tt)
 each_more Q (u ∷ vs) v e q = (e.0, each_more Q vs v e.1 q)
 
+-- counted nodes, and one more
+values_more : (q : Test) (vs : List Typed) (v : Typed) → nodes_in_items q (items_of (vs ++ v ∷ [])) ≡ nodes_in_items q (items_of vs) + nodes q v
+values_more q [] v = omega arith
+values_more q (u ∷ vs) v = omega (arith, values_more q vs v)
+
+trees_more : (h : Plain → ℕ) (ts : List Plain) (t : Plain) → sum_items h (ts ++ t ∷ []) ≡ sum_items h ts + h t
+trees_more h [] t = omega arith
+trees_more h (u ∷ ts) t = omega (arith, trees_more h ts t)
+
 pub one_more_item : (f : Family) (V : Template) (ts : List Plain) (vs : List Typed) (t : Plain) (v : Typed) → GatheredItems f V ts vs → IsRead f V t v → GatheredItems f V (ts ++ t ∷ []) (vs ++ v ∷ [])
 one_more_item f V ts vs t v g r = record {
   right = items_right (wrong_part f V) ts t g.right r.right;
   typed = each_more (IsTyped f V) vs v g.typed r.typed;
   trees = sym (item_more ts vs t v (sym g.trees) (sym r.tree));
   count = omega (arith, g.count, length-append vs (v ∷ []), length-append ts (t ∷ []));
+  counted = λ q. values_more q vs v ∙ ap₂ ◌+◌ (g.counted q) (r.counted q) ∙ sym (trees_more (part_nodes f q V) ts t);
 }
 
 pub all_items : (f : Family) (V : Template) (ts : List Plain) (vs : List Typed) → GatheredItems f V ts vs → AreRead f V ts vs
-all_items f V ts vs g = record { right = g.right; typed = g.typed; trees = g.trees }
+all_items f V ts vs g = record { right = g.right; typed = g.typed; trees = g.trees; counted = g.counted }

@@ -4,12 +4,16 @@ pub mod Gathered
 pub mod ItemLoop
 pub mod Loops
 pub mod Measures
+pub mod Musts
+pub mod NodesOf
 pub mod Pairs
 pub mod PartsOf
 pub mod ReadOf
 pub mod RowEnd
 pub mod RowLoop
+pub mod RowNodes
 pub mod RowOf
 pub mod RowTyped
 pub mod Stops
+pub mod Tally
 pub mod Whole

@@ -10,7 +10,7 @@ use Rattle.mig_template.proofs.Names.{apart_if_once}
 use Rattle.mig_value.specs.Typed as typed
 use Rattle.mig_value.specs.Typed.{Tag, out, out_slots, slots_of, tag_pair}
 use Rattle.mig_value.specs.Parts.{RecordParts, IsRecord, names_in, tag_name}
-use Rattle.mig_codec.specs.Nodes.{pairs_in}
+use Rattle.mig_codec.specs.Lists.{pairs_in}
 
 pub slot_keys : (ss : List typed.Slot) → keys_of (out_slots (slots_of ss)) ≡ keys_of ss
 slot_keys [] = refl

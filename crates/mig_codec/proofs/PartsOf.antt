@@ -51,7 +51,7 @@ abbrev pub case_if : Bool → List Field → Option (List Field) → Option (Lis
 case_if b fs o = if b then Some fs else o
 
 abbrev pub found_in : List ℕ → List parts.Case → Option (List Field)
-found_in l cs = found_case l (Some ([], cs))
+found_in l cs = found_case l (Some ([], cs, false))
 
 pub case_guarded : (l : List ℕ) (cs : List parts.Case) (fs : List Field) → found_in l cs ≡ Some fs → any_in_cases has_point_side (cases_of cs) ≡ false → any_in_fields has_point_side (fields_of fs) ≡ false
 case_guarded l [] fs e h = absurd cc

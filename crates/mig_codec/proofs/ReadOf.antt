@@ -1,5 +1,5 @@
 -- What was read of the parts, seen from the whole.
-use Rattle.std.proofs.Common.{◌≡◌, ℕ, List, [], ◌∷◌, ◌++◌, Bool, true, false, true≢false, Option, Some, None, refl, sym, ap, ◌∙◌, subst}
+use Rattle.std.proofs.Common.{◌≡◌, ℕ, ◌+◌, List, [], ◌∷◌, ◌++◌, Bool, true, false, true≢false, Option, Some, None, refl, sym, ap, ◌∙◌, subst}
 use Rattle.std.specs.Prelude.{unwrap_or, if◌then◌else◌}
 use Rattle.std.specs.Ordering.{is_lt}
 use Rattle.std.specs.Map.{keys_of}
@@ -21,22 +21,25 @@ use Rattle.mig_value.specs.Typed as typed
 use Rattle.mig_value.specs.Typed.{Typed, items_of}
 use Rattle.mig_value.specs.Parts as values
 use Rattle.mig_value.specs.Fit.{IsAtomOf}
+use Rattle.mig_value.specs.Nodes.{count, sum_items}
 use Rattle.mig_value.proofs.Fits.{fit_unfolds}
 use Rattle.mig_codec.specs.Parted.{HasTag, TagAt, IsRowRead, wrong_pair, wrong_row, below_name}
-use Rattle.mig_codec.specs.Reading.{AreRead, IsRead, IsNodeRead, IsTyped, wrong_part}
+use Rattle.mig_codec.specs.Reading.{AreRead, IsRead, IsNodeRead, IsTyped, wrong_part, part_nodes}
 use Rattle.mig_codec.specs.Row.{Row, tagged, belongs, is_tag, missing_in}
 use Rattle.mig_codec.specs.RowView.{earlier, or_first}
 use Rattle.mig_codec.proofs.Belonging.{tagged_found}
 use Rattle.mig_codec.proofs.RowLoop.{right_more, less_than, not_itself}
 use Rattle.mig_codec.proofs.RowOf.{RowCase, wrong_as_row}
+use Rattle.mig_codec.proofs.RowNodes.{row_nodes}
 use Rattle.mig_codec.proofs.RowTyped.{row_typed}
+use Rattle.mig_codec.proofs.Tally.{body_nodes}
 
 -- a list
 pub list_stops : (f : Family) (V : Template) (ts : List Plain) → wrong_item (wrong_part f V) 0 ts ≡ wrong_part f (list V) (plain.list (trees_of ts))
 list_stops f V ts = ap (wrong_item (wrong_part f V) 0) (sym (items_of_trees ts))
 
 pub list_read : (f : Family) (V : Template) (ts : List Plain) (vs : List Typed) → AreRead f V ts vs → IsRead f (list V) (plain.list (trees_of ts)) (typed.list (items_of vs))
-list_read f V ts vs r = record { right = sym (list_stops f V ts) ∙ r.right; typed = r.typed; tree = ap plain.list r.trees }
+list_read f V ts vs r = record { right = sym (list_stops f V ts) ∙ r.right; typed = r.typed; tree = ap plain.list r.trees; counted = λ q. r.counted q ∙ ap (sum_items (part_nodes f q V)) (sym (items_of_trees ts)) }
 
 -- a node
 pub node_stops : (f : Family) → IsFormed f → (n : List ℕ) (V : Template) → find_type n f.types ≡ Some V → (t : Plain) → wrong_part f V t ≡ wrong_part f (point n) t
@@ -48,21 +51,37 @@ node_read f formed n V e t v r = record {
   name = refl;
   typed = (fit_unfolds (IsAtomOf f.form) (body f) n v).1 (subst (λ o. IsTyped f (unwrap_or o any) v) (sym e) r.typed);
   tree = r.tree;
+  counted = λ q. r.counted q ∙ ap (λ o. part_nodes f q (unwrap_or o any) t) (sym e) ∙ sym (body_nodes f formed q n t);
 }
 
 pub point_read : (f : Family) (n : List ℕ) (t : Plain) (v : values.NodeParts) → IsNodeRead f n t v → IsRead f (point n) t (typed.point v.0 v.1)
-point_read f n t v r = record { right = r.right; typed = (r.name, r.typed); tree = r.tree }
+point_read f n t v r = record { right = r.right; typed = (r.name, r.typed); tree = r.tree; counted = λ q i. count (q (r.name i)) + r.counted q i }
 
 -- a sum
 pub left_read : (f : Family) (V W : Template) (t : Plain) (v : Typed) → has_kind f.form V (kind_of t) ≡ true → IsRead f V t v → IsRead f (sum V W) t (typed.left v)
-left_read f V W t v e r = record { right = wrong_left f.form (place f) V W t e ∙ r.right; typed = r.typed; tree = r.tree }
+left_read f V W t v e r = record {
+  right = wrong_left f.form (place f) V W t e ∙ r.right;
+  typed = r.typed;
+  tree = r.tree;
+  counted = λ q. r.counted q ∙ (λ i. if sym e i then part_nodes f q V t else (if has_kind f.form W (kind_of t) then part_nodes f q W t else 0));
+}
 
 pub right_read : (f : Family) (V W : Template) (t : Plain) (v : Typed) → has_kind f.form V (kind_of t) ≡ false → has_kind f.form W (kind_of t) ≡ true → IsRead f W t v → IsRead f (sum V W) t (typed.right v)
-right_read f V W t v e h r = record { right = wrong_right f.form (place f) V W t e h ∙ r.right; typed = r.typed; tree = r.tree }
+right_read f V W t v e h r = record {
+  right = wrong_right f.form (place f) V W t e h ∙ r.right;
+  typed = r.typed;
+  tree = r.tree;
+  counted = λ q. r.counted q ∙ (λ i. if sym e i then part_nodes f q V t else (if sym h i then part_nodes f q W t else 0));
+}
 
 -- a record
 pub record_read : (f : Family) (p : parts.RecordParts) (es : Entries) (row : Row) (r : values.RecordParts) → RowCase p es row → IsRowRead f row es r → IsRead f (parts.record_of p) (plain.map (pairs_of es)) (values.record_of r)
-record_read f p es row r c read = record { right = wrong_as_row f p es row c ∙ read.right; typed = row_typed f p es r row c read; tree = ap (λ ps. plain.map (pairs_of ps)) read.pairs }
+record_read f p es row r c read = record {
+  right = wrong_as_row f p es row c ∙ read.right;
+  typed = row_typed f p es r row c read;
+  tree = ap (λ ps. plain.map (pairs_of ps)) read.pairs;
+  counted = λ q. read.counted q ∙ sym (row_nodes f q p es row c);
+}
 
 -- the pair of a name in a map
 found_here : (ys rest : Entries) (n : List ℕ) (t : Plain) → IsNamed (ys ++ (n, t) ∷ rest) → found n (ys ++ (n, t) ∷ rest) ≡ Some t

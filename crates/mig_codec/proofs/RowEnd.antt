@@ -21,7 +21,7 @@ use Rattle.mig_value.specs.Typed.{in_order}
 use Rattle.mig_value.specs.Parts.{RecordParts, IsRecord}
 use Rattle.mig_value.proofs.Orders.{in_order_named}
 use Rattle.mig_laws.proofs.Tests.{split_or, same_name_is, same_name_itself}
-use Rattle.mig_codec.specs.Nodes.{pairs_in}
+use Rattle.mig_codec.specs.Lists.{pairs_in}
 use Rattle.std.specs.Ordering.{is_lt}
 use Rattle.mig_codec.specs.Parted.{IsRow, IsRowRead, is_tagged, tag_names}
 use Rattle.mig_codec.specs.Row.{Row, Belongs, common, tagged, cased, unknown, is_tag, belongs, missing_in}
@@ -120,7 +120,7 @@ musts_there q row es (g ∷ fs) h e =
     by false k e' rest = absurd cc
 
 -- names that stand once
-among_other : (ms ns : List (List ℕ)) (x : List ℕ) → has_twice (ms ++ ns) ≡ false → is_among ns x ≡ true → is_among ms x ≡ false
+pub among_other : (ms ns : List (List ℕ)) (x : List ℕ) → has_twice (ms ++ ns) ≡ false → is_among ns x ≡ true → is_among ms x ≡ false
 among_other [] ns x h k = refl
 among_other (m ∷ ms) ns x h k =
     let both = split_or (is_among (ms ++ ns) m) (has_twice (ms ++ ns)) h in
@@ -169,7 +169,7 @@ cased_if false (Some s) u h k l = absurd (true≢false k)
 cased_if false None (Some s) h k l = refl
 cased_if false None None h k l = absurd (true≢false (sym l))
 
-or_false : (b : Bool) → (b || false) ≡ false → b ≡ false
+pub or_false : (b : Bool) → (b || false) ≡ false → b ≡ false
 or_false true e = e
 or_false false e = e
 
@@ -233,4 +233,5 @@ row_end f row es p g named is none =
       cased_musts = ap (has_musts (fields_of row.cased)) g.cases ∙ musts_there is_cased row es row.cased (cased_there f row is) both.1;
       tag = g.tag;
       pairs = pairs_end f row es p g named;
+      counted = g.counted;
     }

@@ -1,5 +1,5 @@
 -- The pairs of a map, read one after another.
-use Rattle.std.proofs.Common.{◌≡◌, ℕ, List, [], ◌∷◌, ◌++◌, Bool, true, false, Option, Some, None, IsTrue, refl, sym, ap, ◌∙◌, subst}
+use Rattle.std.proofs.Common.{◌≡◌, ℕ, List, [], ◌∷◌, ◌++◌, Bool, true, false, Option, Some, None, IsTrue, refl, sym, ap, ap₂, ◌∙◌, subst, ◌+◌, arith}
 use Rattle.std.specs.Prelude.{if◌then◌else◌}
 use Rattle.std.specs.List.{AllByRecursion}
 use Rattle.std.specs.Map.{keys_of}
@@ -16,12 +16,14 @@ use Rattle.mig_model.specs.Template.{Field, fields_of, is_open}
 use Rattle.mig_model.specs.Family.{Family, body}
 use Rattle.mig_model.specs.Place.{Place, Wrong, at_name, unless, wrong_entry, place}
 use Rattle.mig_value.specs.Typed.{Typed, Slot, slots_of, out, out_slots, tag_pair}
+use Rattle.mig_value.specs.Nodes.{Test, nodes, sum_entries}
 use Rattle.mig_value.specs.Parts.{RecordParts}
 use Rattle.mig_value.specs.Fit.{EachSlot, FieldsFit, FitAsRead, IsAtomOf}
 use Rattle.mig_value.specs.View.{typed_of, slot_of}
 use Rattle.mig_codec.specs.declared.pieces.Placed.{Placed}
 use Rattle.mig_codec.specs.declared.pieces.Placed.TheVariants as P
-use Rattle.mig_codec.specs.Parted.{IsPlaced, added, wrong_pair, is_tagged}
+use Rattle.mig_codec.specs.Lists.{slot_nodes, record_nodes}
+use Rattle.mig_codec.specs.Parted.{IsPlaced, added, wrong_pair, nodes_as, pair_nodes, is_tagged}
 use Rattle.mig_codec.specs.Row.{Row, Belongs, common, tagged, cased, unknown, belongs, is_tag, wrong_as}
 use Rattle.mig_laws.proofs.Tests.{same_name_is}
 use Rattle.mig_codec.proofs.Belonging.{common_found, cased_found, tagged_found, field_fits}
@@ -35,6 +37,15 @@ slots_more (r ∷ ss) s = ap (λ l. (r.0, out r.1) ∷ l) (slots_more ss s)
 each_more : (Q : List ℕ → Typed → Type 0) (ss : List Slot) (s : Slot) → EachSlot Q (slots_of ss) → Q s.0 s.1 → EachSlot Q (slots_of (ss ++ s ∷ []))
 each_more Q [] s e q = (q, tt)
 each_more Q (r ∷ ss) s e q = (e.0, each_more Q ss s e.1 q)
+
+-- counted nodes, and one more
+slot_nodes_more : (q : Test) (ss : List Slot) (s : Slot) → slot_nodes q (ss ++ s ∷ []) ≡ slot_nodes q ss + nodes q s.1
+slot_nodes_more q [] s = omega arith
+slot_nodes_more q (r ∷ ss) s = omega (arith, slot_nodes_more q ss s)
+
+pairs_more : (h : List ℕ → Plain → ℕ) (es : Entries) (n : List ℕ) (t : Plain) → sum_entries h (es ++ (n, t) ∷ []) ≡ sum_entries h es + h n t
+pairs_more h [] n t = omega arith
+pairs_more h (e ∷ es) n t = omega (arith, pairs_more h es n t)
 
 -- pairs that are right, and one more
 pub right_more : (w : List ℕ → Plain → Option Place) (es rest : Entries) (n : List ℕ) (t : Plain) → wrong_entry w es ≡ None → wrong_entry w (es ++ (n, t) ∷ rest) ≡ at_name n (w n t) (wrong_entry w rest)
@@ -104,6 +115,11 @@ module _ (f : Family) (row : Row) (es : Entries) (p : RecordParts) (g : Gathered
   slots_then : (ss : List Slot) (m : List ℕ) (v : Typed) → m ≡ n → out v ≡ t → out_slots (slots_of (ss ++ (m, v) ∷ [])) ≡ out_slots (slots_of ss) ++ (n, t) ∷ []
   slots_then ss m v e h = slots_more ss (m, v) ∙ ap (λ x. out_slots (slots_of ss) ++ x ∷ []) (slot_pair m v e h)
 
+  -- what was counted before, and the nodes of one more value
+  count_more : (q : Test) (b : Belongs) → belongs row n ≡ b → (k : ℕ) → k ≡ nodes_as f q b t → (all : ℕ) → all ≡ record_nodes q p + k → all ≡ sum_entries (pair_nodes f q row) more
+  count_more q b is k e all h =
+      h ∙ ap₂ ◌+◌ (g.counted q) (e ∙ ap (λ c. nodes_as f q c t) (sym is)) ∙ sym (pairs_more (pair_nodes f q row) es n t)
+
   abbrev FieldsHere : List Field → (List ℕ → Typed → Type 0)
   FieldsHere fs = FieldsFit (IsAtomOf f.form) (FitAsRead f.form (body f)) (fields_of fs)
 
@@ -120,6 +136,7 @@ module _ (f : Family) (row : Row) (es : Entries) (p : RecordParts) (g : Gathered
         fields_fit = each_more (FieldsHere row.fields) p.fields (slot_of s) g.fields_fit (subst (λ m. FieldsHere row.fields m (typed_of s.value)) (sym name) (field_fits (IsAtomOf f.form) (FitAsRead f.form (body f)) n row.fields found.0 V (typed_of s.value) found.1 read.typed));
         cases_fit = g.cases_fit;
         others_fit = g.others_fit;
+        counted = λ q. count_more q (common V) is (nodes q (typed_of s.value)) (read.counted q) (record_nodes q (added p (P.Field s))) (omega (arith, slot_nodes_more q p.fields (slot_of s)));
       }
   one_more_pair rest named (P.Tag m l) (is, name, text) =
       let none : those is_tagged row es ≡ [] = no_tag_before row es rest n t named is in
@@ -133,6 +150,7 @@ module _ (f : Family) (row : Row) (es : Entries) (p : RecordParts) (g : Gathered
         fields_fit = g.fields_fit;
         cases_fit = g.cases_fit;
         others_fit = g.others_fit;
+        counted = λ q. count_more q tagged is 0 refl (record_nodes q p) (omega arith);
       }
   one_more_pair rest named (P.Cased s) (V, is, name, read) =
       let found = cased_found row n V is in
@@ -145,6 +163,7 @@ module _ (f : Family) (row : Row) (es : Entries) (p : RecordParts) (g : Gathered
         fields_fit = g.fields_fit;
         cases_fit = each_more (FieldsHere row.cased) p.cased (slot_of s) g.cases_fit (subst (λ m. FieldsHere row.cased m (typed_of s.value)) (sym name) (field_fits (IsAtomOf f.form) (FitAsRead f.form (body f)) n row.cased found.0 V (typed_of s.value) found.1 read.typed));
         others_fit = g.others_fit;
+        counted = λ q. count_more q (cased V) is (nodes q (typed_of s.value)) (read.counted q) (record_nodes q (added p (P.Cased s))) (omega (arith, slot_nodes_more q p.cased (slot_of s)));
       }
   one_more_pair rest named (P.Unknown s) (is, open', name, value, form) =
       record {
@@ -160,6 +179,7 @@ module _ (f : Family) (row : Row) (es : Entries) (p : RecordParts) (g : Gathered
           open',
           subst (IsAtomOf f.form) (sym value) form,
         );
+        counted = λ q. count_more q unknown is (nodes q (typed_of s.value)) (ap (nodes q) value) (record_nodes q (added p (P.Unknown s))) (omega (arith, slot_nodes_more q p.rest (slot_of s)));
       }
     where
       none_wrong : (b : Bool) → IsTrue b → unless b ≡ None

@@ -1,25 +1,26 @@
 -- The record at a map, and what is wrong in the map.
-use Rattle.std.proofs.Common.{◌≡◌, ℕ, List, [], ◌∷◌, ◌++◌, Bool, true, false, Option, Some, None, refl, sym, ap, ◌∙◌, subst}
-use Rattle.std.specs.Prelude.{if◌then◌else◌}
+use Rattle.std.proofs.Common.{◌≡◌, ◌⊎◌, inl, inr, ℕ, List, [], ◌∷◌, ◌++◌, Bool, true, false, Option, Some, None, refl, sym, ap, ◌∙◌, subst}
+use Rattle.std.specs.Prelude.{◌||◌, ◌&&◌, if◌then◌else◌}
 use Rattle.std.specs.List.{list_any}
 use Rattle.std.specs.Map.{keys_of, lookup}
 use Rattle.std.specs.BTreeMap.{is_at}
 use Rattle.mig_model.specs.declared.form.Form.{Form}
 use Rattle.mig_model.specs.declared.presence.Presence.{Presence}
 use Rattle.mig_model.specs.declared.rest.Rest.{Rest}
+use Rattle.mig_model.specs.declared.rest.Rest.TheVariants.{Open}
 use Rattle.mig_model.specs.Plain as plain
 use Rattle.mig_model.specs.Plain.{Plain, pairs_of, entries}
 use Rattle.mig_model.specs.Kinds.{entries_of_pairs}
 use Rattle.mig_model.specs.Names.{by_bytes, found}
-use Rattle.mig_model.specs.Inhabits.{Entries, is_text}
+use Rattle.mig_model.specs.Inhabits.{Entries, is_text, is_some_text, has_text}
 use Rattle.mig_model.specs.Family.{Family, has_twice}
-use Rattle.mig_model.specs.Place.{Place, Wrong, sooner, under, at_name, missing, is_literal, unless, wrong_entry, wrong_map, wrong_fields, wrong_choice, wrong_cases, place}
+use Rattle.mig_model.specs.Place.{Place, Wrong, sooner, under, at_name, missing, is_tagged, unless, wrong_entry, wrong_map, wrong_fields, wrong_choice, wrong_cases, place}
 use Rattle.mig_model.specs.Template.{Template, Field, fields_of, cases_of, same_name, is_open}
 use Rattle.mig_template.specs.Kept.{RecordKept}
 use Rattle.mig_template.specs.Parts as parts
 use Rattle.mig_template.specs.Parts.{RecordParts, found_field, found_case, choice_of, record_of, is_twice_named, is_twice_in, has_twice_in}
 use Rattle.mig_template.proofs.Views.{field_list_of, case_list_of}
-use Rattle.mig_laws.proofs.Reading.{find_case, wrong_field, wrong_other, wrong_if_literal, wrong_if_no_literal, no_literal, literal_is, literal_none, missing_case, wrong_case}
+use Rattle.mig_laws.proofs.Reading.{find_case, wrong_field, wrong_other, wrong_if_tagged, wrong_if_not_tagged, no_literal, literal_is, literal_none, missing_case, missing_none_of, wrong_case, wrong_none_of}
 use Rattle.mig_laws.proofs.Tests.{split_or}
 use Rattle.mig_codec.specs.Parted.{IsRow, HasTag, wrong_pair, wrong_row}
 use Rattle.mig_codec.specs.Reading.{IsPart, wrong_part}
@@ -27,21 +28,30 @@ use Rattle.mig_codec.specs.Row.{Row, Belongs, tagged, in_case, in_fields, unknow
 use Rattle.mig_codec.specs.RowView.{tag_place}
 use Rattle.mig_codec.proofs.PartsOf.{found_in, common_part, cased_part}
 
--- the two ways in which there is a record at a map
+-- the three ways in which there is a record at a map
 pub data RowCase (p : RecordParts) (es : Entries) (row : Row) : Type 0 where
   untagged : p.choice ≡ None → ◌≡◌ {A = Row} (record { fields = p.fields; tag = None; cased = []; rest = p.rest }) row → RowCase p es row
   tagged_as : (c : parts.Cases) (s : List ℕ) (ds : List Field) → p.choice ≡ Some c → found c.0 es ≡ Some (plain.text s) → found_in s c.1 ≡ Some ds → ◌≡◌ {A = Row} (record { fields = p.fields; tag = Some c.0; cased = ds; rest = p.rest }) row → RowCase p es row
+  kept_as : (c : parts.Cases) (s : List ℕ) → p.choice ≡ Some c → found c.0 es ≡ Some (plain.text s) → found_in s c.1 ≡ None → c.2 ≡ true → ◌≡◌ {A = Row} (record { fields = p.fields; tag = Some c.0; cased = []; rest = Open }) row → RowCase p es row
 
 row_is : (a b : Row) → Some a ≡ Some b → a ≡ b
 row_is a b e = cc
 
-tag_text : (p : RecordParts) (tag : List ℕ) (o : Option Plain) (row : Row) → with_tag p tag o ≡ Some row → (s : List ℕ) × (o ≡ Some (plain.text s)) × (with_case p tag (found_case s p.choice) ≡ Some row)
-tag_text p tag (Some (plain.text s)) row e = (s, refl, e)
-tag_text p tag o row e = absurd cc
+tag_text : (p : RecordParts) (tag : List ℕ) (kept : Bool) (o : Option Plain) (row : Row) → with_tag p tag kept o ≡ Some row → (s : List ℕ) × (o ≡ Some (plain.text s)) × (with_case p tag kept (found_case s p.choice) ≡ Some row)
+tag_text p tag kept (Some (plain.text s)) row e = (s, refl, e)
+tag_text p tag kept o row e = absurd cc
 
-case_there : (p : RecordParts) (tag : List ℕ) (o : Option (List Field)) (row : Row) → with_case p tag o ≡ Some row → (ds : List Field) × (o ≡ Some ds) × ◌≡◌ {A = Row} (record { fields = p.fields; tag = Some tag; cased = ds; rest = p.rest }) row
-case_there p tag None row e = absurd cc
-case_there p tag (Some ds) row e = (ds, refl, row_is _ row e)
+-- the case is there, or the tag is kept without one
+abbrev CaseThere : RecordParts → List ℕ → Option (List Field) → Row → Type 0
+CaseThere p tag o row = (ds : List Field) × (o ≡ Some ds) × ◌≡◌ {A = Row} (record { fields = p.fields; tag = Some tag; cased = ds; rest = p.rest }) row
+
+abbrev TagKept : RecordParts → List ℕ → Bool → Option (List Field) → Row → Type 0
+TagKept p tag kept o row = (o ≡ None) × (kept ≡ true) × ◌≡◌ {A = Row} (record { fields = p.fields; tag = Some tag; cased = []; rest = Open }) row
+
+case_there : (p : RecordParts) (tag : List ℕ) (kept : Bool) (o : Option (List Field)) (row : Row) → with_case p tag kept o ≡ Some row → CaseThere p tag o row ⊎ TagKept p tag kept o row
+case_there p tag kept (Some ds) row e = inl (ds, refl, row_is _ row e)
+case_there p tag true None row e = inr (refl, refl, row_is _ row e)
+case_there p tag false None row e = absurd cc
 
 pub row_case : (p : RecordParts) (es : Entries) (row : Row) → row_of p es ≡ Some row → RowCase p es row
 row_case p es row = by p.choice refl
@@ -49,14 +59,17 @@ row_case p es row = by p.choice refl
     by : (o : Option parts.Cases) → p.choice ≡ o → with_choice p o es ≡ Some row → RowCase p es row
     by None is e = untagged is (row_is _ row e)
     by (Some c) is e =
-        let text = tag_text p c.0 (found c.0 es) row e in
-        let there = case_there p c.0 (found_case text.0 p.choice) row text.2 in
-        tagged_as c text.0 there.0 is text.1 (ap (found_case text.0) (sym is) ∙ there.1) there.2
+        let text = tag_text p c.0 c.2 (found c.0 es) row e in
+        elim (case_there p c.0 c.2 (found_case text.0 p.choice) row text.2) [
+          | inl there ↦ tagged_as c text.0 there.0 is text.1 (ap (found_case text.0) (sym is) ∙ there.1) there.2
+          | inr none ↦ kept_as c text.0 is text.1 (ap (found_case text.0) (sym is) ∙ none.0) none.1 none.2
+        ]
 
 -- what the record at a map keeps
 pub row_has_tag : (p : RecordParts) (es : Entries) (row : Row) → RowCase p es row → HasTag row.tag es
 row_has_tag p es row (untagged none is) = subst (λ (r : Row). HasTag r.tag es) is tt
 row_has_tag p es row (tagged_as c s ds there text case' is) = subst (λ (r : Row). HasTag r.tag es) is (s, text)
+row_has_tag p es row (kept_as c s there text none kept is) = subst (λ (r : Row). HasTag r.tag es) is (s, text)
 
 abbrev case_if : Bool → List Field → Option (List Field) → Option (List Field)
 case_if b fs o = if b then Some fs else o
@@ -86,6 +99,10 @@ row_is_row f p es row part kept (tagged_as c s ds there text found' is) =
       cased = cased_part f p part c there s ds found';
       apart = no_twice_in (c.0 ∷ keys_of p.fields) s c.1 ds found' any.0;
     })
+row_is_row f p es row part kept (kept_as c s there text none keeps is) =
+    let distinct : is_twice_named p.fields (Some c) ≡ false = subst (λ o. is_twice_named p.fields o ≡ false) there kept.0.distinct in
+    let inside = split_or (has_twice (c.0 ∷ keys_of p.fields)) (is_twice_in (c.0 ∷ keys_of p.fields) c.1) distinct in
+    subst (IsRow f) is (record { fields = common_part f p part; cased = λ n q V e. absurd cc; apart = inside.0 })
 
 -- what is wrong in the map
 wrong_same : (v w : List ℕ → Plain → Option Place) → ((n : List ℕ) (t : Plain) → v n t ≡ w n t) → (es : Entries) → wrong_entry v es ≡ wrong_entry w es
@@ -119,11 +136,21 @@ module _ (form : Form) (w : List ℕ → Plain → Option Place) (r : Rest) (n :
   at_tag tag true x c h = refl
   at_tag tag false x c h = h
 
-found_case_of : (s : List ℕ) (cs : List parts.Case) (ds : List Field) → found_in s cs ≡ Some ds → find_case s (cases_of cs) ≡ Some ds
+pub found_case_of : (s : List ℕ) (cs : List parts.Case) (ds : List Field) → found_in s cs ≡ Some ds → find_case s (cases_of cs) ≡ Some ds
 found_case_of s cs ds e = ap (λ l. lookup (is_at (by_bytes s)) l) (case_list_of cs) ∙ e
 
-no_case_of : (s : List ℕ) (cs : List parts.Case) → found_in s cs ≡ None → find_case s (cases_of cs) ≡ None
+pub no_case_of : (s : List ℕ) (cs : List parts.Case) → found_in s cs ≡ None → find_case s (cases_of cs) ≡ None
 no_case_of s cs e = ap (λ l. lookup (is_at (by_bytes s)) l) (case_list_of cs) ∙ e
+
+or_left : (a b : Bool) → a ≡ true → (a || b) ≡ true
+or_left a b e = ap (λ c. c || b) e
+
+or_right : (a b : Bool) → b ≡ true → (a || b) ≡ true
+or_right true b e = refl
+or_right false b e = e
+
+neither : (a b : Bool) → a ≡ false → b ≡ false → (a || b) ≡ false
+neither a b e h = λ i. e i || h i
 
 abbrev wrong_pairs : Family → RecordParts → Entries → Option Place
 wrong_pairs f p es =
@@ -141,32 +168,59 @@ module _ (f : Family) (p : RecordParts) (es : Entries) where
       (λ n t. among f.form (place f) p.rest n t p.fields unknown (λ m u. unless (is_open p.rest)) refl) es in
       λ i. under (sooner (each i) (sym (sooner_last (missing (fields_of p.fields) es)) i))
 
+  -- the pairs of a map whose tag is a text
+  tagged_pairs : (c : parts.Cases) (ds : List Field) (r : Rest)
+      → ((n : List ℕ) (t : Plain) → wrong_fields f.form (place f) (fields_of p.fields) (wrong_cases f.form (place f) c.0 (cases_of c.1) p.rest es) n t ≡ wrong_as f.form (place f) r (in_fields (found_field n p.fields) (in_case (found_field n ds))) t)
+      → wrong_entry (wrong_choice f.form (place f) (choice_of (Some c)) (wrong_fields f.form (place f) (fields_of p.fields)) p.rest es) es ≡ wrong_entry (wrong_pair f (record { fields = p.fields; tag = Some c.0; cased = ds; rest = r })) es
+  tagged_pairs c ds r each =
+      wrong_same (wrong_choice f.form (place f) (choice_of (Some c)) (wrong_fields f.form (place f) (fields_of p.fields)) p.rest es) (wrong_pair f (record { fields = p.fields; tag = Some c.0; cased = ds; rest = r }))
+      (λ n t. at_tag f.form (place f) r n t c.0 (same_name n c.0) (wrong_fields f.form (place f) (fields_of p.fields) (wrong_cases f.form (place f) c.0 (cases_of c.1) p.rest es) n t) (in_fields (found_field n p.fields) (in_case (found_field n ds)))
+      (each n t)) es
+
   in_tagged : (c : parts.Cases) (s : List ℕ) (ds : List Field) → found c.0 es ≡ Some (plain.text s) → found_in s c.1 ≡ Some ds → with_choice_of f p (Some c) es ≡ wrong_row f (record { fields = p.fields; tag = Some c.0; cased = ds; rest = p.rest }) es
   in_tagged c s ds text e =
       let there = found_case_of s c.1 ds e in
-      let each : wrong_entry (wrong_choice f.form (place f) (choice_of (Some c)) (wrong_fields f.form (place f) (fields_of p.fields)) p.rest es) es ≡ wrong_entry (wrong_pair f (record { fields = p.fields; tag = Some c.0; cased = ds; rest = p.rest })) es =
-      wrong_same (wrong_choice f.form (place f) (choice_of (Some c)) (wrong_fields f.form (place f) (fields_of p.fields)) p.rest es) (wrong_pair f (record { fields = p.fields; tag = Some c.0; cased = ds; rest = p.rest }))
-      (λ n t. at_tag f.form (place f) p.rest n t c.0 (same_name n c.0) (wrong_fields f.form (place f) (fields_of p.fields) (wrong_cases f.form (place f) c.0 (cases_of c.1) p.rest es) n t) (in_fields (found_field n p.fields) (in_case (found_field n ds)))
-      (among f.form (place f) p.rest n t p.fields (in_case (found_field n ds)) (wrong_cases f.form (place f) c.0 (cases_of c.1) p.rest es) (wrong_case c.0 s es text f.form (place f) p.rest (cases_of c.1) ds there n t ∙ in_cases f.form (place f) p.rest n t ds))) es in
-      wrong_if_literal (fields_of p.fields) c.0 (cases_of c.1) es _ (literal_is c.0 s es text (cases_of c.1) ds there)
+      let each = tagged_pairs c ds p.rest
+      (λ n t. among f.form (place f) p.rest n t p.fields (in_case (found_field n ds)) (wrong_cases f.form (place f) c.0 (cases_of c.1) p.rest es) (wrong_case c.0 s es text f.form (place f) p.rest (cases_of c.1) ds there n t ∙ in_cases f.form (place f) p.rest n t ds)) in
+      wrong_if_tagged (fields_of p.fields) c.0 (cases_of c.1) c.2 es _ (or_left _ _ (literal_is c.0 s es text (cases_of c.1) ds there))
       ∙ (λ i. under (sooner (each i) (sooner (missing (fields_of p.fields) es) (missing_case c.0 s es text (cases_of c.1) ds there i))))
+
+  -- where the tag is kept, other names are right
+  in_kept : (c : parts.Cases) (s : List ℕ) → found c.0 es ≡ Some (plain.text s) → found_in s c.1 ≡ None → c.2 ≡ true → with_choice_of f p (Some c) es ≡ wrong_row f (record { fields = p.fields; tag = Some c.0; cased = []; rest = Open }) es
+  in_kept c s text e kept =
+      let none = no_case_of s c.1 e in
+      let each = tagged_pairs c [] Open
+      (λ n t. among f.form (place f) Open n t p.fields unknown (wrong_cases f.form (place f) c.0 (cases_of c.1) p.rest es) (wrong_none_of c.0 s es text f.form (place f) p.rest (cases_of c.1) none n t)) in
+      wrong_if_tagged (fields_of p.fields) c.0 (cases_of c.1) c.2 es _ (or_right _ _ (kept_text c.0 s c.2 text kept))
+      ∙ (λ i. under (sooner (each i) (sooner (missing (fields_of p.fields) es) (missing_none_of c.0 s es text (cases_of c.1) none i))))
+    where
+      kept_text : (tag l : List ℕ) (b : Bool) → found tag es ≡ Some (plain.text l) → b ≡ true → (b && has_text tag es) ≡ true
+      kept_text tag l b is k = λ i. k i && is_some_text (is i)
 
   pub wrong_as_row : (row : Row) → RowCase p es row → wrong_part f (record_of p) (plain.map (pairs_of es)) ≡ wrong_row f row es
   wrong_as_row row (untagged none is) = ap (wrong_pairs f p) (entries_of_pairs es) ∙ ap (λ o. with_choice_of f p o es) none ∙ in_untagged ∙ ap (λ r. wrong_row f r es) is
   wrong_as_row row (tagged_as c s ds there text e is) = ap (wrong_pairs f p) (entries_of_pairs es) ∙ ap (λ o. with_choice_of f p o es) there ∙ in_tagged c s ds text e ∙ ap (λ r. wrong_row f r es) is
+  wrong_as_row row (kept_as c s there text none kept is) = ap (wrong_pairs f p) (entries_of_pairs es) ∙ ap (λ o. with_choice_of f p o es) there ∙ in_kept c s text none kept ∙ ap (λ r. wrong_row f r es) is
 
-  -- where the tag is no literal
-  no_text : (c : parts.Cases) (o : Option Plain) → found c.0 es ≡ o → p.choice ≡ Some c → with_tag p c.0 o ≡ None → is_literal c.0 (cases_of c.1) es ≡ false
-  no_text c (Some (plain.text s)) h is e = literal_none c.0 s es h (cases_of c.1) (no_case_of s c.1 (no_case (found_case s p.choice) e (ap (found_case s) is)))
+  -- where the tag is no literal, nor another text that is kept
+  no_text : (c : parts.Cases) (o : Option Plain) → found c.0 es ≡ o → p.choice ≡ Some c → with_tag p c.0 c.2 o ≡ None → is_tagged c.0 (cases_of c.1) c.2 es ≡ false
+  no_text c (Some (plain.text s)) h is e =
+      let none = no_case c.2 (found_case s p.choice) e in
+      neither _ _ (literal_none c.0 s es h (cases_of c.1) (no_case_of s c.1 (sym (ap (found_case s) is) ∙ none.0))) (ap (λ b. b && has_text c.0 es) none.1)
     where
-      no_case : (o : Option (List Field)) → with_case p c.0 o ≡ None → o ≡ found_in s c.1 → found_in s c.1 ≡ None
-      no_case None k j = sym j
-      no_case (Some ds) k j = absurd cc
-  no_text c o h is e = no_literal c.0 (cases_of c.1) es (λ l. ap (is_text l) h)
+      no_case : (kept : Bool) (o : Option (List Field)) → with_case p c.0 kept o ≡ None → (o ≡ None) × (kept ≡ false)
+      no_case kept (Some ds) k = absurd cc
+      no_case true None k = absurd cc
+      no_case false None k = (refl, refl)
+  no_text c o h is e = neither _ _ (no_literal c.0 (cases_of c.1) es (λ l. ap (is_text l) h)) (no_kept c.2 (ap is_some_text h))
+    where
+      no_kept : (kept : Bool) → has_text c.0 es ≡ false → (kept && has_text c.0 es) ≡ false
+      no_kept true k = k
+      no_kept false k = refl
 
   pub wrong_at_tag : row_of p es ≡ None → wrong_part f (record_of p) (plain.map (pairs_of es)) ≡ tag_place p.choice
   wrong_at_tag e = ap (wrong_pairs f p) (entries_of_pairs es) ∙ by p.choice refl e
     where
       by : (o : Option parts.Cases) → p.choice ≡ o → with_choice p o es ≡ None → wrong_pairs f p es ≡ tag_place p.choice
       by None is k = absurd cc
-      by (Some c) is k = ap (λ o. with_choice_of f p o es) is ∙ wrong_if_no_literal (fields_of p.fields) c.0 (cases_of c.1) es _ (no_text c (found c.0 es) refl is k) ∙ ap tag_place (sym is)
+      by (Some c) is k = ap (λ o. with_choice_of f p o es) is ∙ wrong_if_not_tagged (fields_of p.fields) c.0 (cases_of c.1) c.2 es _ (no_text c (found c.0 es) refl is k) ∙ ap tag_place (sym is)

@@ -1,15 +1,17 @@
 -- A map that was read at a record is one of its values.
 use Rattle.std.proofs.Common.{◌≡◌, ℕ, List, [], ◌∷◌, Bool, true, false, true≢false, Option, Some, None, IsTrue, MatchBool, refl, sym, ap, ◌∙◌, subst}
-use Rattle.std.specs.Prelude.{◌||◌, ◌&&◌, is_some, if◌then◌else◌}
+use Rattle.std.specs.Prelude.{not, ◌||◌, ◌&&◌, is_some, if◌then◌else◌}
 use Rattle.std.specs.Map.{lookup}
 use Rattle.std.specs.BTreeMap.{is_at}
+use Rattle.mig_model.specs.declared.rest.Rest.{Rest}
+use Rattle.mig_model.specs.declared.rest.Rest.TheVariants.{Open}
 use Rattle.mig_model.specs.Plain as plain
 use Rattle.mig_model.specs.Plain.{Plain}
 use Rattle.mig_model.specs.Names.{by_bytes, found}
 use Rattle.mig_model.specs.Inhabits.{Entries, has_musts}
 use Rattle.mig_model.specs.Family.{Family, body}
 use Rattle.mig_model.specs.Fields.{is_field}
-use Rattle.mig_model.specs.Template.{Field, fields_of, choice, cases_of, same_name, no_field, no_choice}
+use Rattle.mig_model.specs.Template.{Field, fields_of, choice, cases_of, same_name, is_open, no_field, no_choice}
 use Rattle.mig_template.specs.Parts as parts
 use Rattle.mig_template.specs.Parts.{RecordParts, found_field, choice_of}
 use Rattle.mig_template.proofs.Views.{field_list_of}
@@ -19,12 +21,12 @@ use Rattle.mig_value.specs.Fit.{EachSlot, FieldsFit, ChoiceFits, CasesFit, TagFi
 use Rattle.mig_laws.proofs.Tests.{same_name_is, same_name_itself, both_true}
 use Rattle.mig_codec.specs.Parted.{IsRowRead, is_tagged}
 use Rattle.mig_codec.specs.Reading.{IsTyped}
-use Rattle.mig_codec.specs.Row.{Row, Belongs, tagged, belongs, is_tag, in_case, in_fields}
+use Rattle.mig_codec.specs.Row.{Row, Belongs, tagged, unknown, belongs, is_tag, in_case, in_fields}
 use Rattle.mig_codec.proofs.Belonging.{unknown_found, tagged_found}
 use Rattle.mig_codec.proofs.Gathered.{those}
 use Rattle.mig_codec.proofs.PartsOf.{found_in, case_if}
 use Rattle.mig_codec.proofs.RowEnd.{found_those}
-use Rattle.mig_codec.proofs.RowOf.{RowCase, untagged, tagged_as}
+use Rattle.mig_codec.proofs.RowOf.{RowCase, untagged, tagged_as, kept_as}
 
 each_slot : (P Q : List ℕ → Typed → Type 0) → ((n : List ℕ) (v : Typed) → P n v → Q n v) → (ss : Slots) → EachSlot P ss → EachSlot Q ss
 each_slot P Q f no_slot e = tt
@@ -55,6 +57,31 @@ case_field n s (c ∷ cs) ds e = by (same_name s c.0) e (case_field n s cs ds)
     by true k rest = let is : c.1 ≡ ds = cc in ap (λ fs. is_field n (fields_of fs)) is
     by false k rest = rest k
 
+-- a case that isn't there
+no_literal_there : (s : List ℕ) (cs : List parts.Case) → found_in s cs ≡ None → has_literal s (cases_of cs) ≡ false
+no_literal_there s [] e = refl
+no_literal_there s (c ∷ cs) e = by (same_name s c.0) e (no_literal_there s cs)
+  where
+    by : (b : Bool) → case_if b c.1 (found_in s cs) ≡ None → (found_in s cs ≡ None → has_literal s (cases_of cs) ≡ false) → (b || has_literal s (cases_of cs)) ≡ false
+    by true k rest = absurd cc
+    by false k rest = rest k
+
+no_musts : (s : List ℕ) (cs : List parts.Case) (es : Entries) → found_in s cs ≡ None → has_case_musts s (cases_of cs) es ≡ true
+no_musts s [] es e = refl
+no_musts s (c ∷ cs) es e = by (same_name s c.0) e (no_musts s cs es)
+  where
+    by : (b : Bool) → case_if b c.1 (found_in s cs) ≡ None → (found_in s cs ≡ None → has_case_musts s (cases_of cs) es ≡ true) → (if b then has_musts (fields_of c.1) es else has_case_musts s (cases_of cs) es) ≡ true
+    by true k rest = absurd cc
+    by false k rest = rest k
+
+no_case_field : (n s : List ℕ) (cs : List parts.Case) → found_in s cs ≡ None → is_field_of_case n s (cases_of cs) ≡ false
+no_case_field n s [] e = refl
+no_case_field n s (c ∷ cs) e = by (same_name s c.0) e (no_case_field n s cs)
+  where
+    by : (b : Bool) → case_if b c.1 (found_in s cs) ≡ None → (found_in s cs ≡ None → is_field_of_case n s (cases_of cs) ≡ false) → (if b then is_field n (fields_of c.1) else is_field_of_case n s (cases_of cs)) ≡ false
+    by true k rest = absurd cc
+    by false k rest = rest k
+
 cases_fit : (U : Typed → Type 0) (P : List ℕ → Typed → Type 0) (s : List ℕ) (cs : List parts.Case) (ds : List Field) → found_in s cs ≡ Some ds → (n : List ℕ) (v : Typed) → FieldsFit U P (fields_of ds) n v → CasesFit U P s (cases_of cs) n v
 cases_fit U P s [] ds e n v h = absurd cc
 cases_fit U P s (c ∷ cs) ds e n v h = by (same_name s c.0) e (λ k. cases_fit U P s cs ds k n v h)
@@ -73,6 +100,14 @@ true_is false e = absurd (true≢false (sym e))
 and_true : (a b : Bool) → a ≡ true → IsTrue (a && true)
 and_true true b e = refl
 and_true false b e = absurd (true≢false (sym e))
+
+or_true : (a b : Bool) → IsTrue a → IsTrue (a || b)
+or_true true b e = refl
+or_true false b e = absurd cc
+
+last_true : (a b : Bool) → IsTrue b → IsTrue (a || b)
+last_true true b e = refl
+last_true false b e = e
 
 or_none : (a b : Bool) → a ≡ false → b ≡ false → (a || b) ≡ false
 or_none a b h k = λ i. h i || k i
@@ -129,27 +164,42 @@ module _ (f : Family) (p : RecordParts) (es : Entries) (r : values.RecordParts) 
     read.fields,
     each_slot (FieldsFit U P no_field) (ChoiceFits U P no_choice None) (λ n v h. absurd h) (slots_of r.cased) read.cased,
     each_slot _ (IsUnknown U (fields_of p.fields) no_choice None p.rest)
-        (λ n v h. let out' = unknown_found row n h.0 in (or_none (is_field n (fields_of p.fields)) false (field_known n p.fields ∙ ap is_some out'.fields) refl, h.1, h.2))
+        (λ n v h. let out' = unknown_found row n h.0 in (or_none (is_field n (fields_of p.fields)) false (field_known n p.fields ∙ ap is_some out'.fields) refl, or_true (is_open p.rest) false h.1, h.2))
         (slots_of r.rest) read.rest,
   )
     where
       row : Row
       row = record { fields = p.fields; tag = None; cased = []; rest = p.rest }
 
+  -- an unknown name beside a literal
+  unknown_beside : (c : parts.Cases) (s : List ℕ) (ds : List Field) (r' : Rest) → ((m : List ℕ) → is_field_of_case m s (cases_of c.1) ≡ is_field m (fields_of ds)) → (n : List ℕ) → belongs (record { fields = p.fields; tag = Some c.0; cased = ds; rest = r' }) n ≡ unknown
+      → (is_field n (fields_of p.fields) || (same_name n c.0 || is_field_of_case n s (cases_of c.1))) ≡ false
+  unknown_beside c s ds r' same n is =
+      let out' = unknown_found (record { fields = p.fields; tag = Some c.0; cased = ds; rest = r' }) n is in
+      or_none (is_field n (fields_of p.fields)) (same_name n c.0 || is_field_of_case n s (cases_of c.1)) (field_known n p.fields ∙ ap is_some out'.fields)
+      (or_none (same_name n c.0) (is_field_of_case n s (cases_of c.1)) out'.tag (same n ∙ field_known n ds ∙ ap is_some out'.cases))
+
   in_tagged : (c : parts.Cases) (s : List ℕ) (ds : List Field) → found_in s c.1 ≡ Some ds → IsRowRead f (record { fields = p.fields; tag = Some c.0; cased = ds; rest = p.rest }) es r → RecordFits (Some c) (Some (c.0, s))
   in_tagged c s ds e read = (
-    (refl, true_is (has_literal s (cases_of c.1)) (literal_there s c.1 ds e)),
+    (refl, or_true (has_literal s (cases_of c.1)) c.2 (literal_there s c.1 ds e)),
     true_is (has_musts (fields_of p.fields) (out_slots (slots_of r.fields)) && has_case_musts s (cases_of c.1) (out_slots (slots_of r.cased)))
         (both_true (has_musts (fields_of p.fields) (out_slots (slots_of r.fields))) (has_case_musts s (cases_of c.1) (out_slots (slots_of r.cased))) read.field_musts (case_musts s c.1 ds (out_slots (slots_of r.cased)) e ∙ read.cased_musts)),
     read.fields,
     each_slot (FieldsFit U P (fields_of ds)) (CasesFit U P s (cases_of c.1)) (cases_fit U P s c.1 ds e) (slots_of r.cased) read.cased,
-    each_slot _ (IsUnknown U (fields_of p.fields) (choice c.0 (cases_of c.1)) (Some (c.0, s)) p.rest)
-        (λ n v h. let out' = unknown_found (record { fields = p.fields; tag = Some c.0; cased = ds; rest = p.rest }) n h.0 in (
-          or_none (is_field n (fields_of p.fields)) (same_name n c.0 || is_field_of_case n s (cases_of c.1)) (field_known n p.fields ∙ ap is_some out'.fields)
-              (or_none (same_name n c.0) (is_field_of_case n s (cases_of c.1)) out'.tag (case_field n s c.1 ds e ∙ field_known n ds ∙ ap is_some out'.cases)),
-          h.1,
-          h.2,
-        ))
+    each_slot _ (IsUnknown U (fields_of p.fields) (choice c.0 (cases_of c.1) c.2) (Some (c.0, s)) p.rest)
+        (λ n v h. (unknown_beside c s ds p.rest (λ m. case_field m s c.1 ds e) n h.0, or_true (is_open p.rest) (not (has_literal s (cases_of c.1))) h.1, h.2))
+        (slots_of r.rest) read.rest,
+  )
+
+  in_kept : (c : parts.Cases) (s : List ℕ) → found_in s c.1 ≡ None → c.2 ≡ true → IsRowRead f (record { fields = p.fields; tag = Some c.0; cased = []; rest = Open }) es r → RecordFits (Some c) (Some (c.0, s))
+  in_kept c s e kept read = (
+    (refl, last_true (has_literal s (cases_of c.1)) c.2 kept),
+    true_is (has_musts (fields_of p.fields) (out_slots (slots_of r.fields)) && has_case_musts s (cases_of c.1) (out_slots (slots_of r.cased)))
+        (both_true (has_musts (fields_of p.fields) (out_slots (slots_of r.fields))) (has_case_musts s (cases_of c.1) (out_slots (slots_of r.cased))) read.field_musts (no_musts s c.1 (out_slots (slots_of r.cased)) e)),
+    read.fields,
+    each_slot (FieldsFit U P no_field) (CasesFit U P s (cases_of c.1)) (λ n v h. absurd h) (slots_of r.cased) read.cased,
+    each_slot _ (IsUnknown U (fields_of p.fields) (choice c.0 (cases_of c.1) c.2) (Some (c.0, s)) p.rest)
+        (λ n v h. (unknown_beside c s [] Open (λ m. no_case_field m s c.1 e) n h.0, last_true (is_open p.rest) (not (has_literal s (cases_of c.1))) (ap not (no_literal_there s c.1 e)), h.2))
         (slots_of r.rest) read.rest,
   )
 
@@ -162,3 +212,7 @@ module _ (f : Family) (p : RecordParts) (es : Entries) (r : values.RecordParts) 
       let here : IsRowRead f (record { fields = p.fields; tag = Some c.0; cased = ds; rest = p.rest }) es r = subst (λ w. IsRowRead f w es r) (sym is) read in
       let tag : r.tag ≡ some_tag c.0 s = tag_is (record { fields = p.fields; tag = Some c.0; cased = ds; rest = p.rest }) es r.tag c.0 s refl here.tag text in
       subst (λ o. RecordFits o r.tag) (sym there) (subst (RecordFits (Some c)) (sym tag) (in_tagged c s ds e here))
+  row_typed row (kept_as c s there text e kept is) read =
+      let here : IsRowRead f (record { fields = p.fields; tag = Some c.0; cased = []; rest = Open }) es r = subst (λ w. IsRowRead f w es r) (sym is) read in
+      let tag : r.tag ≡ some_tag c.0 s = tag_is (record { fields = p.fields; tag = Some c.0; cased = []; rest = Open }) es r.tag c.0 s refl here.tag text in
+      subst (λ o. RecordFits o r.tag) (sym there) (subst (RecordFits (Some c)) (sym tag) (in_kept c s e kept here))

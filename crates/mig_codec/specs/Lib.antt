@@ -1,4 +1,5 @@
-pub mod Nodes
+pub mod Laws
+pub mod Lists
 pub mod Row
 pub mod RowView
 pub mod Parted

@@ -13,6 +13,7 @@ use Rattle.mig_model.specs.declared.rest.Rest.{Rest}
 use Rattle.mig_model.specs.Place.{Place, named, Wrong, sooner, under, place, wrong_entry}
 use Rattle.mig_template.specs.Parts.{found_field}
 use Rattle.mig_value.specs.Typed.{atom, slots_of, out_slots, tag_pair, in_order}
+use Rattle.mig_value.specs.Nodes.{Test, sum_entries}
 use Rattle.mig_value.specs.Parts.{RecordParts}
 use Rattle.mig_value.specs.Fit.{EachSlot, FieldsFit, FitAsRead, IsAtomOf}
 use Rattle.mig_value.specs.View.{typed_of, slot_of}
@@ -21,9 +22,9 @@ use Rattle.mig_codec.specs.declared.pieces.Pieces.{Pieces}
 use Rattle.mig_codec.specs.declared.pieces.Placed.{Placed}
 use Rattle.mig_codec.specs.declared.pieces.Placed.TheVariants as P
 use Rattle.mig_codec.specs.declared.stop.Stop.{Stop}
-use Rattle.mig_codec.specs.Nodes.{pairs_in}
+use Rattle.mig_codec.specs.Lists.{record_nodes, pairs_in}
 use Rattle.mig_codec.specs.Row.{Row, Belongs, common, tagged, cased, unknown, belongs, wrong_in, missing_in}
-use Rattle.mig_codec.specs.Reading.{IsRead, IsPart, StopsAt}
+use Rattle.mig_codec.specs.Reading.{IsRead, IsPart, StopsAt, part_nodes}
 
 abbrev pub pieces_of : Pieces → RecordParts
 pieces_of p = record { fields = map slot_of p.fields.items; tag = p.tag; cased = map slot_of p.cased.items; rest = map slot_of p.rest.items }
@@ -45,6 +46,16 @@ IsPlaced f row n t (P.Unknown s) = (belongs row n ≡ unknown) × IsTrue (is_ope
 -- the first wrong place of a tree under a name
 abbrev pub wrong_pair : Family → Row → (List ℕ → Plain → Option Place)
 wrong_pair f row = wrong_in f.form (place f) row
+
+-- how many trees stand at points whose name passes, in a tree under a name that belongs there
+abbrev pub nodes_as : Family → Test → Belongs → Plain → ℕ
+nodes_as f p (common V) t = part_nodes f p V t
+nodes_as f p tagged t = 0
+nodes_as f p (cased V) t = part_nodes f p V t
+nodes_as f p unknown t = 0
+
+abbrev pub pair_nodes : Family → Test → Row → List ℕ → Plain → ℕ
+pair_nodes f p row n t = nodes_as f p (belongs row n) t
 
 abbrev pub below_name : List ℕ → Option Place → Wrong
 below_name n None = None
@@ -98,6 +109,7 @@ pub record IsRowRead (f : Family) (row : Row) (es : Entries) (p : RecordParts) :
   pub cased_musts : has_musts (fields_of row.cased) (out_slots (slots_of p.cased)) ≡ true
   pub tag : tag_pair p.tag ≡ filter (λ e. is_tagged (belongs row e.0)) es
   pub pairs : in_order (pairs_in p) ≡ es
+  pub counted : (q : Test) → record_nodes q p ≡ sum_entries (pair_nodes f q row) es
 
 abbrev pub ReadsRow : Family → Row → Entries → Result RecValue Stop → Type 0
 ReadsRow f row es (Ok p) = IsRowRead f row es p

@@ -8,6 +8,7 @@ use Rattle.mig_model.specs.Template.{Template, point}
 use Rattle.mig_template.specs.Size.{template_size}
 use Rattle.mig_tree.specs.Place.{place_of}
 use Rattle.mig_value.specs.Typed.{Typed, out, out_items, items_of}
+use Rattle.mig_value.specs.Nodes.{Test, count, nodes, nodes_in_items, sum_items, tally, tree_nodes}
 use Rattle.mig_value.specs.Parts.{NodeParts}
 use Rattle.mig_value.specs.Fit.{EachItem, Fits, FitAsRead, IsAtomOf}
 use Rattle.mig_value.specs.View.{typed_of}
@@ -23,6 +24,10 @@ use Rattle.mig_codec.specs.declared.fault.ReadFault.TheVariants as fault
 abbrev pub wrong_part : Family → Template → Plain → Option Place
 wrong_part f V t = wrong f.form (place f) V t
 
+-- how many trees stand at points whose name passes, in a tree at a part of a body
+abbrev pub part_nodes : Family → Test → Template → Plain → ℕ
+part_nodes f p V t = tally f.form (λ m u. count (p m) + tree_nodes f p m u) V t
+
 -- the value is one of the template, and its nodes are ones of their types
 abbrev pub IsTyped : Family → Template → Typed → Type 0
 IsTyped f V v = Fits (IsAtomOf f.form) (FitAsRead f.form (body f)) V v
@@ -37,6 +42,7 @@ pub record IsRead (f : Family) (V : Template) (t : Plain) (v : Typed) : Type 0 w
   pub right : wrong_part f V t ≡ None
   pub typed : IsTyped f V v
   pub tree : out v ≡ t
+  pub counted : (p : Test) → nodes p v ≡ part_nodes f p V t
 
 abbrev pub Reads : Family → Template → Plain → Result Value Stop → Type 0
 Reads f V t (Ok v) = IsRead f V t (typed_of v)
@@ -52,6 +58,7 @@ pub record AreRead (f : Family) (V : Template) (ts : List Plain) (vs : List Type
   pub right : wrong_item (wrong_part f V) 0 ts ≡ None
   pub typed : EachItem (IsTyped f V) (items_of vs)
   pub trees : out_items (items_of vs) ≡ trees_of ts
+  pub counted : (p : Test) → nodes_in_items p (items_of vs) ≡ sum_items (part_nodes f p V) ts
 
 abbrev pub ReadsItems : Family → Template → List Plain → Result Values Stop → Type 0
 ReadsItems f V ts (Ok vs) = AreRead f V ts vs
@@ -63,6 +70,7 @@ pub record IsNodeRead (f : Family) (n : List ℕ) (t : Plain) (v : NodeParts) : 
   pub name : v.0 ≡ n
   pub typed : FitAsRead f.form (body f) n v.1
   pub tree : out v.1 ≡ t
+  pub counted : (p : Test) → nodes p v.1 ≡ tree_nodes f p n t
 
 abbrev pub ReadsNode : Family → List ℕ → Plain → Result Node Stop → Type 0
 ReadsNode f n t (Ok v) = IsNodeRead f n t v
@@ -70,12 +78,12 @@ ReadsNode f n t (Err stop) = StopsAt stop (wrong_part f (point n) t)
 
 -- the fault's place; want of memory says nothing
 abbrev pub FaultAt : ReadFault → Option Place → Type 0
-FaultAt (fault.Unfit p) o = o ≡ Some (place_of p)
+FaultAt (fault.Unfit p) o = o ≡ Some p
 FaultAt fault.Memory o = Unit {0}
 
 -- the place is the first wrong one, and the tree is none of the named type; want of memory says nothing
 abbrev pub IsUnfit : ReadFault → Family → List ℕ → Plain → Type 0
-IsUnfit (fault.Unfit p) f n t = (place f n t ≡ Some (place_of p)) × (Inhabits (body f) n t → ⊥)
+IsUnfit (fault.Unfit p) f n t = (place f n t ≡ Some p) × (Inhabits f.form (body f) n t → ⊥)
 IsUnfit fault.Memory f n t = Unit {0}
 
 -- the size of all bodies together

@@ -1,12 +1,13 @@
 -- A record at a map whose tag is known: the fields that its maps may have, and where each name belongs.
-use Rattle.std.specs.Prelude.{ℕ, List, [], Bool, false, Option, Some, None, if◌then◌else◌}
+use Rattle.std.specs.Prelude.{ℕ, List, [], Bool, true, false, Option, Some, None, count_by, if◌then◌else◌}
 use Rattle.mig_model.specs.declared.form.Form.{Form}
 use Rattle.mig_model.specs.declared.presence.Presence.{Presence}
 use Rattle.mig_model.specs.declared.rest.Rest.{Rest}
+use Rattle.mig_model.specs.declared.rest.Rest.TheVariants.{Open}
 use Rattle.mig_model.specs.Plain as plain
 use Rattle.mig_model.specs.Plain.{Plain}
 use Rattle.mig_model.specs.Names.{found}
-use Rattle.mig_model.specs.Template.{Template, Field, fields_of, same_name, is_open}
+use Rattle.mig_model.specs.Template.{Template, Field, fields_of, same_name, is_must, is_open}
 use Rattle.mig_model.specs.Inhabits.{Entries}
 use Rattle.mig_model.specs.Place.{Place, Wrong, sooner, missing, unless, wrong}
 use Rattle.mig_template.specs.Parts as parts
@@ -51,22 +52,33 @@ wrong_as form w r unknown t = unless (is_open r)
 abbrev pub wrong_in : Form → (List ℕ → Plain → Option Place) → Row → List ℕ → Plain → Option Place
 wrong_in form w row n t = wrong_as form w row.rest (belongs row n) t
 
+-- the name is that of a Must field
+abbrev pub is_must_field : Option (Presence × Template) → Bool
+is_must_field None = false
+is_must_field (Some s) = is_must s.0
+
+-- how many names of a map are those of Must fields
+abbrev pub musts_among : List Field → Entries → ℕ
+musts_among fs es = count_by (λ e. is_must_field (found_field e.0 fs)) es
+
 -- the first Must field that isn't there
 abbrev pub missing_in : Row → Entries → Wrong
 missing_in row es = sooner (missing (fields_of row.fields) es) (missing (fields_of row.cased) es)
 
-abbrev pub with_case : RecordParts → List ℕ → Option (List Field) → Option Row
-with_case p tag None = None
-with_case p tag (Some fs) = Some (record { fields = p.fields; tag = Some tag; cased = fs; rest = p.rest })
+-- the fields of the tag's case; where it has none and is kept, no fields more, and other names may stand there
+abbrev pub with_case : RecordParts → List ℕ → Bool → Option (List Field) → Option Row
+with_case p tag kept (Some fs) = Some (record { fields = p.fields; tag = Some tag; cased = fs; rest = p.rest })
+with_case p tag true None = Some (record { fields = p.fields; tag = Some tag; cased = []; rest = Open })
+with_case p tag false None = None
 
-abbrev pub with_tag : RecordParts → List ℕ → Option Plain → Option Row
-with_tag p tag (Some (plain.text s)) = with_case p tag (found_case s p.choice)
-with_tag p tag o = None
+abbrev pub with_tag : RecordParts → List ℕ → Bool → Option Plain → Option Row
+with_tag p tag kept (Some (plain.text s)) = with_case p tag kept (found_case s p.choice)
+with_tag p tag kept o = None
 
 abbrev pub with_choice : RecordParts → Option parts.Cases → Entries → Option Row
 with_choice p None es = Some (record { fields = p.fields; tag = None; cased = []; rest = p.rest })
-with_choice p (Some c) es = with_tag p c.0 (found c.0 es)
+with_choice p (Some c) es = with_tag p c.0 c.2 (found c.0 es)
 
--- the record at a map; none where there is a choice and the tag isn't a literal of it
+-- the record at a map; none where there is a choice and the tag isn't a literal of it, nor another text that is kept
 abbrev pub row_of : RecordParts → Entries → Option Row
 row_of p es = with_choice p p.choice es

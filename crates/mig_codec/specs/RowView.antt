@@ -12,12 +12,12 @@ use Rattle.mig_codec.specs.declared.row.Row.{Row}
 use Rattle.mig_codec.specs.declared.row.Belongs.{Belongs}
 use Rattle.mig_codec.specs.declared.row.Belongs.TheVariants as B
 
-abbrev cased_in : Option (Bor (List ℕ) × Bor (List model.Field)) → List model.Field
-cased_in None = []
-cased_in (Some c) = c.1.now
+abbrev pub fields_in : Option (Bor (List model.Field)) → List model.Field
+fields_in None = []
+fields_in (Some fs) = fs.now
 
 abbrev pub row_view : Row → plain.Row
-row_view r = record { fields = r.fields.now; tag = option_map (λ c. c.0.now) r.choice; cased = cased_in r.choice; rest = r.rest }
+row_view r = record { fields = r.fields.now; tag = option_map (λ n. n.now) r.tag; cased = fields_in r.cased; rest = r.rest }
 
 abbrev pub belongs_view : Belongs → plain.Belongs
 belongs_view (B.Common V) = plain.common (template_of V.now)

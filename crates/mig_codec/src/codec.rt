@@ -4,6 +4,7 @@ ghost use Rattle.mig_model.specs.Inhabits.{Inhabits, is_in_form};
 ghost use Rattle.mig_model.specs.Place as model;
 ghost use Rattle.mig_tree.specs.View.{plain_of};
 ghost use Rattle.mig_value.specs.Fit.{FitAsRead};
+ghost use Rattle.mig_value.specs.Nodes.{Test, nodes, tree_nodes};
 ghost use Rattle.mig_value.specs.Typed.{out};
 ghost use Rattle.mig_value.specs.View.{typed_of};
 ghost use Rattle.mig_codec.specs.Reading.{IsUnfit, FaultAt, StopsAt};
@@ -31,7 +32,7 @@ fn fault_of(stop: Stop) -> ReadFault
 
 /// The typed value of the tree at the body of the named type. `Unfit` comes exactly where the tree doesn't inhabit it, with the first wrong place.
 ///
-/// It takes time linear in the tree, apart from log n comparisons for each name of a map and of a record. Texts and arrays are moved.
+/// It takes time linear in the tree, apart from log n comparisons for each name of a map, where a record has n fields; only where a Must field is missing are all its fields looked at. Texts and arrays are moved.
 pub fn read<'a>(
     alloc: Global,
     family: &Family,
@@ -42,7 +43,8 @@ pub fn read<'a>(
     requires form { is_in_form family.now.form (plain_of tree) ≡ true }
     ensures fits { IfOk result (λ v. FitAsRead family.now.form (body family.now) name.now (typed_of v)) }
     ensures tree { IfOk result (λ v. out (typed_of v) ≡ plain_of tree.entry) }
-    ensures inhabits { IfOk result (λ v. Inhabits (body family.now) name.now (plain_of tree.entry)) }
+    ensures nodes { IfOk result (λ v. (p : Test) → nodes p (typed_of v) ≡ tree_nodes family.now p name.now (plain_of tree.entry)) }
+    ensures inhabits { IfOk result (λ v. Inhabits family.now.form (body family.now) name.now (plain_of tree.entry)) }
     ensures unfit { IfErr result (λ e. IsUnfit e family.now name.now (plain_of tree.entry)) }
 {
     family.keeps();

@@ -3,6 +3,7 @@
 
 mod codec;
 mod fault;
+mod laws;
 mod pieces;
 mod reading;
 mod row;
@@ -11,4 +12,5 @@ mod writing;
 
 pub use codec::read;
 pub use fault::ReadFault;
+pub use laws::nodes_by_tree;
 pub use writing::write;

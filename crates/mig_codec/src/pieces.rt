@@ -21,7 +21,7 @@ pub enum Placed<'a> {
 }
 
 impl<'a> Pieces<'a> {
-    ghost use Rattle.std.specs.Prelude.{◌≡◌, [], None, OnOk};
+    ghost use Rattle.std.specs.Prelude.{◌≡◌, [], None, OnOk, IfOk};
     ghost use Rattle.mig_value.specs.Parts.{IsRecord};
     ghost use Rattle.mig_codec.specs.Parted.{pieces_of, added};
 
@@ -54,9 +54,9 @@ impl<'a> Pieces<'a> {
     }
 
     /// The record value of these pieces, whose lists ascend and whose names are distinct.
-    pub fn into_record(self) -> RecValue<'a>
+    pub fn into_record(self, alloc: Global) -> Result<RecValue<'a>, Memory>
         requires { IsRecord (pieces_of self) }
-        ensures { result ≡ pieces_of self.entry }
+        ensures { IfOk result (λ r. r ≡ pieces_of self.entry) }
     {
         let Pieces {
             fields,
@@ -64,6 +64,13 @@ impl<'a> Pieces<'a> {
             cased,
             rest,
         } = self;
-        RecValue::new(Slots::new(fields), tag, Slots::new(cased), Slots::new(rest))
+        let parts = RecValue::new(
+            alloc,
+            Slots::new(fields),
+            tag,
+            Slots::new(cased),
+            Slots::new(rest),
+        )?;
+        Ok(parts)
     }
 }

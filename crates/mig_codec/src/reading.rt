@@ -29,7 +29,7 @@ fn wrong_tree(alloc: Global, tree: Tree) -> Stop
     stop_here(alloc)
 }
 
-/// The tag isn't a literal of the choice.
+/// The tag isn't a literal of the choice, nor another text that is kept.
 fn no_literal(alloc: Global, schema: &Record) -> Stop
     ensures { StopsAt result (tag_place schema.now.choice) }
 {
@@ -127,7 +127,7 @@ fn read_items<'a>(
     requires form { items_in_form family.now.form (trees_of items) ≡ true }
     ensures { ReadsItems family.now (template_of part.now) items.entry result }
 {
-    let mut values = Vec::new(alloc);
+    let mut values = Vec::with_capacity(alloc, items.len())?;
     for item in items.into_vec() {
         match read_part(alloc, family, part, item) {
             Ok(value) => values.push(value)?,
@@ -235,7 +235,10 @@ fn read_row<'a>(
     }
     match missing {
         Some(name) => Err(stop_at(alloc, name.bytes())),
-        None => Ok(pieces.into_record()),
+        None => {
+            let parts = pieces.into_record(alloc)?;
+            Ok(parts)
+        }
     }
 }
 

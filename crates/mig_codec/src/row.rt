@@ -1,10 +1,11 @@
 ghost use Rattle.std.specs.Prelude.{◌≡◌, option_map};
 ghost use Rattle.mig_model.specs.Place.{missing, sooner};
 ghost use Rattle.mig_model.specs.Template.{fields_of};
-ghost use Rattle.mig_codec.specs.Row.{row_of};
+ghost use Rattle.mig_template.specs.Parts.{found_case, found_field};
+ghost use Rattle.mig_codec.specs.Row.{row_of, with_case, is_must_field, musts_among};
 ghost use Rattle.mig_codec.specs.RowView.{row_view, missing_view, earlier};
 
-use mig_template::{Fields, Presence, Record, Rest, Template};
+use mig_template::{Choice, Fields, Presence, Record, Rest, Template};
 use mig_tree::{Entries, Name, Tree};
 use std::cmp::Ordering;
 
@@ -12,8 +13,10 @@ use std::cmp::Ordering;
 #[derive(Debug, Drop)]
 pub struct Row<'r> {
     pub fields: &'r Fields,
-    /// The name of the tag and the fields of its case, where there is a choice.
-    pub choice: Option<(&'r Name, &'r Fields)>,
+    /// The name of the tag, where there is a choice.
+    pub tag: Option<&'r Name>,
+    /// The fields of the tag's case; a tag that is kept without being a literal has none.
+    pub cased: Option<&'r Fields>,
     pub rest: Rest,
 }
 
@@ -26,37 +29,75 @@ pub enum Belongs<'r> {
     Unknown,
 }
 
-/// The record at the map, and `None` where there is a choice and the tag isn't a literal of it.
-pub fn row_of<'r>(schema: &'r Record, entries: &Entries) -> Option<Row<'r>>
-    ensures { option_map row_view result ≡ row_of schema.now entries.now }
+/// The record at a map with this text under the tag, and `None` where it is no literal and isn't kept.
+fn row_tagged<'r>(schema: &'r Record, choice: &'r Choice, literal: &[u8]) -> Option<Row<'r>>
+    ensures { option_map row_view result ≡ with_case schema.now choice.now.0 choice.now.2 (found_case literal.now schema.now.choice) }
 {
     let fields = schema.fields();
-    let rest = schema.rest();
-    match schema.choice() {
-        None => Some(Row {
+    let tag = Some(choice.tag());
+    match schema.case(literal) {
+        Some(cased) => Some(Row {
             fields,
-            choice: None,
-            rest,
+            tag,
+            cased: Some(cased),
+            rest: schema.rest(),
         }),
-        Some(choice) => {
-            let tag = choice.tag();
-            let Some(Tree::Text(literal)) = entries.get(tag.bytes()) else {
-                return None;
-            };
-            match schema.case(literal.bytes()) {
-                Some(cased) => Some(Row {
+        None => {
+            if choice.kept() {
+                Some(Row {
                     fields,
-                    choice: Some((tag, cased)),
-                    rest,
-                }),
-                None => None,
+                    tag,
+                    cased: None,
+                    rest: Rest::Open,
+                })
+            } else {
+                None
             }
         }
     }
 }
 
-/// The first Must field that isn't there.
-fn first_missing<'r>(fields: &'r Fields, entries: &Entries) -> Option<&'r Name>
+/// The record at the map, and `None` where there is a choice and the tag is neither a literal of it nor another text that is kept.
+pub fn row_of<'r>(schema: &'r Record, entries: &Entries) -> Option<Row<'r>>
+    ensures { option_map row_view result ≡ row_of schema.now entries.now }
+{
+    match schema.choice() {
+        None => Some(Row {
+            fields: schema.fields(),
+            tag: None,
+            cased: None,
+            rest: schema.rest(),
+        }),
+        Some(choice) => match entries.get(choice.tag().bytes()) {
+            Some(Tree::Text(literal)) => row_tagged(schema, choice, literal.bytes()),
+            _ => None,
+        },
+    }
+}
+
+/// Whether the name is that of a Must field.
+fn is_must(fields: &Fields, name: &[u8]) -> bool
+    ensures { result ≡ is_must_field (found_field name.now fields.now) }
+{
+    match fields.get(name) {
+        Some(field) => field.presence == Presence::Must,
+        None => false,
+    }
+}
+
+/// How many names of the map are those of Must fields. It takes log n comparisons for each name.
+fn musts_among(fields: &Fields, entries: &Entries) -> usize
+    ensures { result ≡ musts_among fields.now entries.now }
+{
+    entries
+        .as_slice()
+        .iter()
+        .filter(|entry| is_must(fields, entry.name.bytes()))
+        .count()
+}
+
+/// The first Must field that isn't there, of all fields.
+fn look_for_missing<'r>(fields: &'r Fields, entries: &Entries) -> Option<&'r Name>
     ensures { missing_view result ≡ missing (fields_of fields.now) entries.now }
 {
     for field in fields.as_slice() {
@@ -65,6 +106,17 @@ fn first_missing<'r>(fields: &'r Fields, entries: &Entries) -> Option<&'r Name>
         }
     }
     None
+}
+
+/// The first Must field that isn't there. Only where the map has too few of them are all fields looked at.
+fn first_missing<'r>(fields: &'r Fields, entries: &Entries) -> Option<&'r Name>
+    ensures { missing_view result ≡ missing (fields_of fields.now) entries.now }
+{
+    let _pairs = entries.as_slice();
+    if musts_among(fields, entries) == fields.musts() {
+        return None;
+    }
+    look_for_missing(fields, entries)
 }
 
 /// The name that comes first.
@@ -112,8 +164,8 @@ impl<'r> Row<'r> {
         if let Some(field) = self.fields.get(name) {
             return Belongs::Common(&field.template);
         }
-        match self.choice {
-            Some((_, cased)) => match cased.get(name) {
+        match self.cased {
+            Some(cased) => match cased.get(name) {
                 Some(field) => Belongs::Cased(&field.template),
                 None => Belongs::Unknown,
             },
@@ -125,8 +177,8 @@ impl<'r> Row<'r> {
     pub fn belongs(&self, name: &[u8]) -> Belongs<'r>
         ensures { belongs_view result ≡ belongs (row_view self.now) name.now }
     {
-        match self.choice {
-            Some((tag, _)) => {
+        match self.tag {
+            Some(tag) => {
                 if name.cmp(tag.bytes()) == Ordering::Equal {
                     Belongs::Tagged
                 } else {
@@ -137,13 +189,13 @@ impl<'r> Row<'r> {
         }
     }
 
-    /// The first Must field that isn't there. It takes a look-up for each field.
+    /// The first Must field that isn't there. It takes log n comparisons for each name of the map; only where one is missing, a look-up for each field as well.
     pub fn missing(&self, entries: &Entries) -> Option<&'r Name>
         ensures { missing_view result ≡ missing_in (row_view self.now) entries.now }
     {
         let first = first_missing(self.fields, entries);
-        match self.choice {
-            Some((_, cased)) => sooner(first, first_missing(cased, entries)),
+        match self.cased {
+            Some(cased) => sooner(first, first_missing(cased, entries)),
             None => first,
         }
     }

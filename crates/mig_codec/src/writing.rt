@@ -5,7 +5,8 @@ ghost use Rattle.mig_tree.specs.View.{plain_of, entry_of};
 ghost use Rattle.mig_value.specs.Typed.{out, out_items, out_slots, items_of, slots_of, tag_pair};
 ghost use Rattle.mig_value.specs.Parts.{record_of};
 ghost use Rattle.mig_value.specs.View.{typed_of, slot_of};
-ghost use Rattle.mig_codec.specs.Nodes.{nodes, item_nodes, slot_nodes, record_nodes, pairs_in};
+ghost use Rattle.mig_value.specs.Nodes.{every, nodes};
+ghost use Rattle.mig_codec.specs.Lists.{item_nodes, slot_nodes, record_nodes, pairs_in};
 
 use mig_tree::{Entries, Entry, Items, Memory, Steps, Text, Tree, gather};
 use mig_value::{RecValue, Slot, Value};
@@ -20,8 +21,8 @@ pub fn write<'a, L: Ledger>(
     steps: &mut Steps<L>,
 ) -> Result<Tree<'a>, Memory>
     ensures tree { IfOk result (λ t. plain_of t ≡ out (typed_of value.entry)) }
-    ensures exact { OnOk result (steps.new ≡ steps.old + nodes (typed_of value.entry)) }
-    ensures count { steps.new ≤ steps.old + nodes (typed_of value.entry) }
+    ensures exact { OnOk result (steps.new ≡ steps.old + nodes every (typed_of value.entry)) }
+    ensures count { steps.new ≤ steps.old + nodes every (typed_of value.entry) }
     ensures grows { steps.old ≤ steps.new }
 {
     match value {
@@ -50,16 +51,17 @@ fn write_items<'a, L: Ledger>(
     steps: &mut Steps<L>,
 ) -> Result<Items<'a>, Memory>
     ensures trees { IfOk result (λ ts. trees_of ts ≡ out_items (items_of (map typed_of values.entry.items))) }
-    ensures exact { OnOk result (steps.new ≡ steps.old + item_nodes (map typed_of values.entry.items)) }
-    ensures count { steps.new ≤ steps.old + item_nodes (map typed_of values.entry.items) }
+    ensures exact { OnOk result (steps.new ≡ steps.old + item_nodes every (map typed_of values.entry.items)) }
+    ensures count { steps.new ≤ steps.old + item_nodes every (map typed_of values.entry.items) }
     ensures grows { steps.old ≤ steps.new }
 {
-    let mut items = Items::empty(alloc);
+    let mut list = Vec::with_capacity(alloc, values.len())?;
     for value in values {
         let tree = write(alloc, value, steps)?;
-        items.push(tree)?;
+        tree.keeps();
+        list.push(tree)?;
     }
-    Ok(items)
+    Ok(Items::new(list))
 }
 
 /// Puts the pairs of the slots behind those that are there.
@@ -71,8 +73,8 @@ fn write_slots<'a, L: Ledger>(
     steps: &mut Steps<L>,
 ) -> Result<(), Memory>
     ensures pairs { OnOk result (map entry_of list.new.items ≡ map entry_of list.old.items ++ out_slots (slots_of (map slot_of slots.entry.items))) }
-    ensures exact { OnOk result (steps.new ≡ steps.old + slot_nodes (map slot_of slots.entry.items)) }
-    ensures count { steps.new ≤ steps.old + slot_nodes (map slot_of slots.entry.items) }
+    ensures exact { OnOk result (steps.new ≡ steps.old + slot_nodes every (map slot_of slots.entry.items)) }
+    ensures count { steps.new ≤ steps.old + slot_nodes every (map slot_of slots.entry.items) }
     ensures grows { steps.old ≤ steps.new }
 {
     for slot in slots {
@@ -94,6 +96,17 @@ fn write_tag<'a>(list: &mut Vec<Entry<'a>>, tag: Option<(Text<'a>, Text<'a>)>) -
     Ok(())
 }
 
+/// How many pairs a record has.
+fn pair_count(fields: &[Slot], tag: &Option<(Text, Text)>, cased: &[Slot], rest: &[Slot]) -> usize
+{
+    let tags = if tag.is_some() { 1 } else { 0 };
+    fields
+        .len()
+        .saturating_add(tags)
+        .saturating_add(cased.len())
+        .saturating_add(rest.len())
+}
+
 /// All pairs of the record, list by list.
 #[cycle(write)]
 fn write_parts<'a, L: Ledger>(
@@ -102,16 +115,19 @@ fn write_parts<'a, L: Ledger>(
     steps: &mut Steps<L>,
 ) -> Result<Vec<Entry<'a>>, Memory>
     ensures pairs { IfOk result (λ list. map entry_of list.items ≡ pairs_in parts.entry) }
-    ensures exact { OnOk result (steps.new ≡ steps.old + record_nodes parts.entry) }
-    ensures count { steps.new ≤ steps.old + record_nodes parts.entry }
+    ensures exact { OnOk result (steps.new ≡ steps.old + record_nodes every parts.entry) }
+    ensures count { steps.new ≤ steps.old + record_nodes every parts.entry }
     ensures grows { steps.old ≤ steps.new }
 {
-    let (fields, tag, cased, rest) = parts.into_parts();
-    let mut list = Vec::new(alloc);
-    write_slots(alloc, &mut list, fields.into_vec(), steps)?;
+    let (fields, tag, cased, rest) = parts.into_parts(alloc);
+    let fields = fields.into_vec();
+    let cased = cased.into_vec();
+    let rest = rest.into_vec();
+    let mut list = Vec::with_capacity(alloc, pair_count(&fields, &tag, &cased, &rest))?;
+    write_slots(alloc, &mut list, fields, steps)?;
     write_tag(&mut list, tag)?;
-    write_slots(alloc, &mut list, cased.into_vec(), steps)?;
-    write_slots(alloc, &mut list, rest.into_vec(), steps)?;
+    write_slots(alloc, &mut list, cased, steps)?;
+    write_slots(alloc, &mut list, rest, steps)?;
     Ok(list)
 }
 
@@ -123,8 +139,8 @@ fn write_record<'a, L: Ledger>(
     steps: &mut Steps<L>,
 ) -> Result<Entries<'a>, Memory>
     ensures map { IfOk result (λ ps. plain.map (pairs_of ps) ≡ out (record_of parts.entry)) }
-    ensures exact { OnOk result (steps.new ≡ steps.old + record_nodes parts.entry) }
-    ensures count { steps.new ≤ steps.old + record_nodes parts.entry }
+    ensures exact { OnOk result (steps.new ≡ steps.old + record_nodes every parts.entry) }
+    ensures count { steps.new ≤ steps.old + record_nodes every parts.entry }
     ensures grows { steps.old ≤ steps.new }
 {
     parts.keeps();

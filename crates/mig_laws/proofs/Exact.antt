@@ -10,8 +10,8 @@ use Rattle.mig_model.specs.Plain.{Plain, items, entries}
 use Rattle.mig_model.specs.Kinds.{kind_of}
 use Rattle.mig_model.specs.Names.{by_bytes, found}
 use Rattle.mig_model.specs.Template.{Template, leaf, any, list, point, rec, sum, Fields, no_field, field, Choice, no_choice, choice, Cases, no_case, case, same_name, same_kind, has_kind, is_must, is_open}
-use Rattle.mig_model.specs.Inhabits.{Entries, EachItem, IsListOf, EachEntry, IsMapOf, has_tag, has_musts, has_case, is_complete, Unknown, Fits, FieldsFit, ChoiceFits, CasesFit, InhabitsWithin}
-use Rattle.mig_model.specs.Place.{Place, PlaceStep, Wrong, named, index, sooner, under, or_else, wrong_item, within_list, within_map, at_name, wrong_entry, missing, missing_in_case, is_literal, wrong_map, unless, wrong, wrong_fields, wrong_choice, wrong_cases, place_within}
+use Rattle.mig_model.specs.Inhabits.{Entries, EachItem, IsListOf, EachEntry, IsMapOf, has_tag, has_text, is_in_form, has_musts, has_case, is_complete, Unknown, Fits, FieldsFit, ChoiceFits, CasesFit, InhabitsWithin}
+use Rattle.mig_model.specs.Place.{Place, PlaceStep, Wrong, named, index, sooner, under, or_else, wrong_item, within_list, within_map, at_name, wrong_entry, missing, missing_in_case, is_literal, is_tagged, wrong_map, unless, wrong, wrong_fields, wrong_choice, wrong_cases, place_within}
 use Rattle.mig_laws.specs.Sides.{SumsApart, FieldsApart, ChoiceApart, CasesApart}
 use Rattle.mig_laws.proofs.Tests.{split_and, both_true, same_kind_is, same_kind_itself}
 use Rattle.mig_laws.proofs.Sides.{kind_told}
@@ -74,12 +74,13 @@ missing_none (field x p V fs) es = go (not (is_must p) || is_some (found x es)) 
     go true e = e
     go false e = (λ f. absurd (cc), λ f. absurd (true≢false (sym f)))
 
-pub case_none : (tag : List ℕ) (cs : Cases) (es : Entries) → (has_case tag cs es ≡ true) ↔ ((is_literal tag cs es ≡ true) × (missing_in_case tag cs es ≡ None))
-case_none tag no_case es = (λ f. absurd (true≢false (sym f)), λ f. absurd (true≢false (sym f.0)))
-case_none tag (case l fs cs) es = go (has_tag tag l es) (case_none tag cs es)
+pub case_none : (tag : List ℕ) (cs : Cases) (kept : Bool) (es : Entries) → (has_case tag cs kept es ≡ true) ↔ ((is_tagged tag cs kept es ≡ true) × (missing_in_case tag cs es ≡ None))
+case_none tag no_case kept es = (λ f. (f, refl), λ f. f.0)
+case_none tag (case l fs cs) kept es = go (has_tag tag l es) (case_none tag cs kept es)
   where
-    go : (b : Bool) → (has_case tag cs es ≡ true) ↔ ((is_literal tag cs es ≡ true) × (missing_in_case tag cs es ≡ None))
-        → ((if b then has_musts fs es else has_case tag cs es) ≡ true) ↔ (((b || is_literal tag cs es) ≡ true) × ((if b then missing fs es else missing_in_case tag cs es) ≡ None))
+    go : (b : Bool) → (has_case tag cs kept es ≡ true) ↔ ((is_tagged tag cs kept es ≡ true) × (missing_in_case tag cs es ≡ None))
+        → ((if b then has_musts fs es else has_case tag cs kept es) ≡ true)
+        ↔ ((((b || is_literal tag cs es) || (kept && has_text tag es)) ≡ true) × ((if b then missing fs es else missing_in_case tag cs es) ≡ None))
     go true e = (λ f. (refl, (missing_none fs es).1 f), λ f. (missing_none fs es).0 f.1)
     go false e = e
 
@@ -102,17 +103,17 @@ record_none fs no_choice es bad = (
   (λ e. let both = sooner_none bad (missing fs es) (under_none _ e) in ((missing_none fs es).0 both.1, both.0)),
   (λ e. rw (e.1, (missing_none fs es).1 e.0) refl),
 )
-record_none fs (choice tag cs) es bad = (
-  (λ e. to (is_literal tag cs es) refl e),
-  (λ e. let both = split_and (has_musts fs es) (has_case tag cs es) e.0 in let one = (case_none tag cs es).0 both.1 in rw (one.0, e.1, (missing_none fs es).1 both.0, one.1) refl),
+record_none fs (choice tag cs kept) es bad = (
+  (λ e. to (is_tagged tag cs kept es) refl e),
+  (λ e. let both = split_and (has_musts fs es) (has_case tag cs kept es) e.0 in let one = (case_none tag cs kept es).0 both.1 in rw (one.0, e.1, (missing_none fs es).1 both.0, one.1) refl),
 )
   where
-    to : (b : Bool) → is_literal tag cs es ≡ b → (if b then under (sooner bad (sooner (missing fs es) (missing_in_case tag cs es))) else Some (named tag ∷ [])) ≡ None
-        → ((has_musts fs es && has_case tag cs es) ≡ true) × (bad ≡ None)
+    to : (b : Bool) → is_tagged tag cs kept es ≡ b → (if b then under (sooner bad (sooner (missing fs es) (missing_in_case tag cs es))) else Some (named tag ∷ [])) ≡ None
+        → ((has_musts fs es && has_case tag cs kept es) ≡ true) × (bad ≡ None)
     to true i e =
         let both = sooner_none bad (sooner (missing fs es) (missing_in_case tag cs es)) (under_none _ e) in
         let more = sooner_none (missing fs es) (missing_in_case tag cs es) both.1 in
-        (both_true _ _ ((missing_none fs es).0 more.0) ((case_none tag cs es).1 (i, more.1)), both.0)
+        (both_true _ _ ((missing_none fs es).0 more.0) ((case_none tag cs kept es).1 (i, more.1)), both.0)
     to false i e = absurd (cc)
 
 leaf_none : (k : Kind) (t : Plain) → (unless (same_kind (kind_of t) k) ≡ None) ↔ (kind_of t ≡ k)
@@ -127,35 +128,35 @@ module _ (form : Form) where
   Tells w P = (n : List ℕ) (t : Plain) → (w n t ≡ None) ↔ P n t
 
   mutual
-    pub wrong_none : (w : List ℕ → Plain → Option Place) (P : List ℕ → Plain → Type 0) → Tells w P → (V : Template) → SumsApart form V → (t : Plain) → (wrong form w V t ≡ None) ↔ Fits P V t
+    pub wrong_none : (w : List ℕ → Plain → Option Place) (P : List ℕ → Plain → Type 0) → Tells w P → (V : Template) → SumsApart form V → (t : Plain) → (wrong form w V t ≡ None) ↔ Fits form P V t
     wrong_none w P e (leaf k) a t = leaf_none k t
-    wrong_none w P e any a t = (λ f. tt, λ f. refl)
-    wrong_none w P e (list V) a t = list_none _ (Fits P V) (item_none (wrong form w V) (Fits P V) (wrong_none w P e V a) 0) t
+    wrong_none w P e any a t = unless_none (is_in_form form t)
+    wrong_none w P e (list V) a t = list_none _ (Fits form P V) (item_none (wrong form w V) (Fits form P V) (wrong_none w P e V a) 0) t
     wrong_none w P e (point n) a t = e n t
     wrong_none w P e (rec fs c o) a t =
-        map_none _ (RecordFits P fs c o)
-        (λ es. let bad = entry_none _ _ (choice_none w P e c a.1 (wrong_fields form w fs) (FieldsFit P fs) (fields_none w P e fs a.0) o es) es in let all = record_none fs c es _ in ((λ f. ((all.0 f).0, bad.0 (all.0 f).1)), (λ f. all.1 (f.0, bad.1 f.1)))) t
+        map_none _ (RecordFits form P fs c o)
+        (λ es. let bad = entry_none _ _ (choice_none w P e c a.1 (wrong_fields form w fs) (FieldsFit form P fs) (fields_none w P e fs a.0) o es) es in let all = record_none fs c es _ in ((λ f. ((all.0 f).0, bad.0 (all.0 f).1)), (λ f. all.1 (f.0, bad.1 f.1)))) t
     wrong_none w P e (sum V W) a t =
-        sides_none (Fits P V t) (Fits P W t) (has_kind form V (kind_of t)) (has_kind form W (kind_of t)) (wrong form w V t) (wrong form w W t)
+        sides_none (Fits form P V t) (Fits form P W t) (has_kind form V (kind_of t)) (has_kind form W (kind_of t)) (wrong form w V t) (wrong form w W t)
         (kind_told form P V t a.0.left) (kind_told form P W t a.0.right) (a.0.apart (kind_of t)) (wrong_none w P e V a.1 t) (wrong_none w P e W a.2 t)
 
     fields_none : (w : List ℕ → Plain → Option Place) (P : List ℕ → Plain → Type 0) → Tells w P → (fs : Fields) → FieldsApart form fs
-        → (o : List ℕ → Plain → Option Place) (O : List ℕ → Plain → Type 0) → Tells o O → Tells (wrong_fields form w fs o) (FieldsFit P fs O)
+        → (o : List ℕ → Plain → Option Place) (O : List ℕ → Plain → Type 0) → Tells o O → Tells (wrong_fields form w fs o) (FieldsFit form P fs O)
     fields_none w P e no_field a o O eo n t = eo n t
     fields_none w P e (field x p V fs) a o O eo n t = if_none (same_name n x) _ _ _ _ (wrong_none w P e V a.0 t) (fields_none w P e fs a.1 o O eo n t)
 
     choice_none : (w : List ℕ → Plain → Option Place) (P : List ℕ → Plain → Type 0) → Tells w P → (c : Choice) → ChoiceApart form c
         → (k : (List ℕ → Plain → Option Place) → List ℕ → Plain → Option Place) (C : (List ℕ → Plain → Type 0) → List ℕ → Plain → Type 0)
-        → ((o : List ℕ → Plain → Option Place) (O : List ℕ → Plain → Type 0) → Tells o O → Tells (k o) (C O)) → (r : Rest) (es : Entries) → Tells (wrong_choice form w c k r es) (ChoiceFits P c C r es)
+        → ((o : List ℕ → Plain → Option Place) (O : List ℕ → Plain → Type 0) → Tells o O → Tells (k o) (C O)) → (r : Rest) (es : Entries) → Tells (wrong_choice form w c k r es) (ChoiceFits form P c C r es)
     choice_none w P e no_choice a k C ek r es n t = ek (λ m u. unless (is_open r)) (Unknown r) (λ m u. unless_none (is_open r)) n t
-    choice_none w P e (choice tag cs) a k C ek r es n t = if_none (same_name n tag) _ _ _ _ (λ f. tt, λ f. refl) (ek _ _ (cases_none w P e tag cs a r es) n t)
+    choice_none w P e (choice tag cs kept) a k C ek r es n t = if_none (same_name n tag) _ _ _ _ (λ f. tt, λ f. refl) (ek _ _ (cases_none w P e tag cs a r es) n t)
 
     cases_none : (w : List ℕ → Plain → Option Place) (P : List ℕ → Plain → Type 0) → Tells w P → (tag : List ℕ) (cs : Cases) → CasesApart form cs
-        → (r : Rest) (es : Entries) → Tells (wrong_cases form w tag cs r es) (CasesFit P tag cs r es)
-    cases_none w P e tag no_case a r es n t = unless_none (is_open r)
+        → (r : Rest) (es : Entries) → Tells (wrong_cases form w tag cs r es) (CasesFit form P tag cs r es)
+    cases_none w P e tag no_case a r es n t = (λ f. tt, λ f. refl)
     cases_none w P e tag (case l fs cs) a r es n t =
         if_none (has_tag tag l es) _ _ _ _ (fields_none w P e fs a.0 (λ m u. unless (is_open r)) (Unknown r) (λ m u. unless_none (is_open r)) n t) (cases_none w P e tag cs a.1 r es n t)
 
-  pub within_none : (body : List ℕ → Template) → ((n : List ℕ) → SumsApart form (body n)) → (k : ℕ) (n : List ℕ) (t : Plain) → (place_within form body k n t ≡ None) ↔ InhabitsWithin body k n t
+  pub within_none : (body : List ℕ → Template) → ((n : List ℕ) → SumsApart form (body n)) → (k : ℕ) (n : List ℕ) (t : Plain) → (place_within form body k n t ≡ None) ↔ InhabitsWithin form body k n t
   within_none body a zero n t = (λ f. absurd (cc), λ f. absurd f)
-  within_none body a (suc k) n t = wrong_none (place_within form body k) (InhabitsWithin body k) (within_none body a k) (body n) (a n) t
+  within_none body a (suc k) n t = wrong_none (place_within form body k) (InhabitsWithin form body k) (within_none body a k) (body n) (a n) t

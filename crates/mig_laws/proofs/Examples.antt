@@ -32,7 +32,7 @@ version_name = 118 ∷ []
 abbrev bags : Family
 bags = record {
   form = F.Nbt;
-  version = version_name;
+  version = version_name ∷ [];
   types = (bag_type, rec (field items_field Must (list (point item_type)) no_field) no_choice Open) ∷ (item_type, rec (field count_field May (sum (leaf K.Int) (leaf K.Text)) no_field) no_choice Closed) ∷ [];
   root = bag_type;
 }
@@ -44,12 +44,16 @@ bag count = plain.map (pair items_field (plain.list (tree (plain.map no_pair) (t
 formed : IsFormed bags
 formed = refl
 
-counted : (z : ℤ) → Inhabits (body bags) bag_type (bag (plain.int z))
+counted : (z : ℤ) → Inhabits bags.form (body bags) bag_type (bag (plain.int z))
 counted z = (place_is_exact bags formed bag_type (bag (plain.int z))).0 refl
 
 miscounted : (z : ℤ) → place bags bag_type (bag (plain.byte z)) ≡ Some (named items_field ∷ index 1 ∷ named count_field ∷ [])
 miscounted z = refl
 
--- a name that the family lacks stands for any tree
-unnamed : (t : Plain) → place bags version_name t ≡ None
-unnamed t = refl
+-- a name that the family lacks stands for any tree of the form
+unnamed : (s : List ℕ) → place bags version_name (plain.text s) ≡ None
+unnamed s = refl
+
+-- a tree with items of two kinds is of no form of NBT
+mixed : (z : ℤ) → place bags version_name (plain.list (tree (plain.int z) (tree (plain.byte z) no_tree))) ≡ Some []
+mixed z = refl

@@ -7,11 +7,11 @@ use Rattle.mig_model.specs.declared.form.Form.TheVariants as F
 use Rattle.mig_model.specs.declared.kind.Kind.{Kind}
 use Rattle.mig_model.specs.declared.kind.Kind.TheVariants as K
 use Rattle.mig_model.specs.Template.{Template, leaf, any, list, point, rec, sum, Fields, no_field, field, Choice, no_choice, choice, Cases, no_case, case, same_name, is_of_form, is_leaf, has_kind}
-use Rattle.mig_model.specs.Family.{Family, find_type, body, any_inside, any_in_fields, any_in_choice, any_in_cases, kinds, is_wrong_leaf, is_point, has_point_side, sides_overlap, Flaw, twice_named, too_many, too_deep, wrong_kind, unknown_name, unguarded, sum_overlap, mixed_list, root_not_record, version_name_used, any_type, has_flaw, flaws, first_of, IsFormed}
+use Rattle.mig_model.specs.Family.{Family, find_type, body, any_inside, any_in_fields, any_in_choice, any_in_cases, kinds, is_wrong_leaf, is_point, has_point_side, sides_overlap, Flaw, twice_named, too_many, too_deep, wrong_kind, unknown_name, unguarded, sum_overlap, mixed_list, root_not_record, version_path, version_name_used, any_type, has_flaw, flaws, first_of, IsFormed}
 use Rattle.mig_laws.specs.Sides.{is_guarded, is_side, AreSides, SumsApart, FieldsApart, ChoiceApart, CasesApart}
 use Rattle.mig_laws.proofs.Tests.{split_and, split_or, both_true, same_kind_itself}
 
--- a formed family has none of the ten faults
+-- a formed family has none of the eleven faults
 none_of : (ws : List Flaw) (f : Family) → first_of ws f ≡ None → AllByRecursion (λ w. has_flaw w f ≡ false) ws
 none_of [] f e = tt
 none_of (w ∷ ws) f e = go (has_flaw w f) refl (none_of ws f) e
@@ -31,7 +31,8 @@ no_flaw f e unguarded = (none_of flaws f e).1.1.1.1.1.0
 no_flaw f e sum_overlap = (none_of flaws f e).1.1.1.1.1.1.0
 no_flaw f e mixed_list = (none_of flaws f e).1.1.1.1.1.1.1.0
 no_flaw f e root_not_record = (none_of flaws f e).1.1.1.1.1.1.1.1.0
-no_flaw f e version_name_used = (none_of flaws f e).1.1.1.1.1.1.1.1.1.0
+no_flaw f e version_path = (none_of flaws f e).1.1.1.1.1.1.1.1.1.0
+no_flaw f e version_name_used = (none_of flaws f e).1.1.1.1.1.1.1.1.1.1.0
 
 -- what no type has, no body has; the body of a name that isn't there is any tree
 each_type : (p : Template → Bool) (ts : List (List ℕ × Template)) → list_any (λ t. p t.1) ts ≡ false → p any ≡ false → (n : List ℕ) → p (unwrap_or (find_type n ts) any) ≡ false
@@ -171,7 +172,7 @@ mutual
 
   choice_apart : (form : Form) (c : Choice) → Sound form (λ p. any_in_choice p c) → ChoiceApart form c
   choice_apart form no_choice s = tt
-  choice_apart form (choice tag cs) s = cases_apart form cs s
+  choice_apart form (choice tag cs kept) s = cases_apart form cs s
 
   cases_apart : (form : Form) (cs : Cases) → Sound form (λ p. any_in_cases p cs) → CasesApart form cs
   cases_apart form no_case s = tt

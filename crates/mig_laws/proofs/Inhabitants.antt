@@ -1,5 +1,6 @@
 -- Inhabitants: no way down has more points than the tree has levels, so the number of points that are allowed plays no part.
 use Rattle.std.proofs.Common.{◌≡◌, ◌↔◌, ◌⊎◌, inl, inr, sym, subst, ℕ, zero, suc, ◌≤◌, ◌<◌, arith, List, [], ◌∷◌, true, true≢false, IsTrue}
+use Rattle.mig_model.specs.declared.form.Form.{Form}
 use Rattle.mig_model.specs.declared.rest.Rest.{Rest}
 use Rattle.mig_model.specs.Plain as plain
 use Rattle.mig_model.specs.Plain.{Plain, items, entries}
@@ -27,73 +28,73 @@ module _ (R : Plain → Type 0) where
   map_where A B f t r s = absurd s
 
 -- what a record says of a map's pairs
-abbrev pub RecordFits : (List ℕ → Plain → Type 0) → Fields → Choice → Rest → Entries → Type 0
-RecordFits P fs c o es = IsTrue (is_complete fs c es) × EachEntry (ChoiceFits P c (FieldsFit P fs) o es) es
+abbrev pub RecordFits : Form → (List ℕ → Plain → Type 0) → Fields → Choice → Rest → Entries → Type 0
+RecordFits form P fs c o es = IsTrue (is_complete fs c es) × EachEntry (ChoiceFits form P c (FieldsFit form P fs) o es) es
 
 -- where the trees in hand have a property that passes down, what holds at points may be weakened by it
-module _ (R : Plain → Type 0) (down : PassesDown R) where
+module _ (form : Form) (R : Plain → Type 0) (down : PassesDown R) where
   abbrev pub Weakens : (List ℕ → Plain → Type 0) → (List ℕ → Plain → Type 0) → Type 0
   Weakens P Q = (n : List ℕ) (t : Plain) → R t → P n t → Q n t
 
   mutual
-    pub fits_where : (P Q : List ℕ → Plain → Type 0) → Weakens P Q → (V : Template) (t : Plain) → R t → Fits P V t → Fits Q V t
+    pub fits_where : (P Q : List ℕ → Plain → Type 0) → Weakens P Q → (V : Template) (t : Plain) → R t → Fits form P V t → Fits form Q V t
     fits_where P Q f (leaf k) t r s = s
-    fits_where P Q f any t r s = tt
-    fits_where P Q f (list V) t r s = list_where R (Fits P V) (Fits Q V) (fits_where P Q f V) t (down t r) s
+    fits_where P Q f any t r s = s
+    fits_where P Q f (list V) t r s = list_where R (Fits form P V) (Fits form Q V) (fits_where P Q f V) t (down t r) s
     fits_where P Q f (point n) t r s = f n t r s
     fits_where P Q f (rec fs c o) t r s =
-        map_where R (RecordFits P fs c o) (RecordFits Q fs c o) (λ es q both. (both.0, entries_where R _ _ (choice_where P Q f c (FieldsFit P fs) (FieldsFit Q fs) (fields_where P Q f fs) o es) es q both.1)) t (down t r) s
+        map_where R (RecordFits form P fs c o) (RecordFits form Q fs c o) (λ es q both. (both.0, entries_where R _ _ (choice_where P Q f c (FieldsFit form P fs) (FieldsFit form Q fs) (fields_where P Q f fs) o es) es q both.1)) t (down t r) s
     fits_where P Q f (sum V W) t r s = elim s [ inl x ↦ inl (fits_where P Q f V t r x) | inr y ↦ inr (fits_where P Q f W t r y) ]
 
-    fields_where : (P Q : List ℕ → Plain → Type 0) → Weakens P Q → (fs : Fields) (O O' : List ℕ → Plain → Type 0) → Weakens O O' → Weakens (FieldsFit P fs O) (FieldsFit Q fs O')
+    fields_where : (P Q : List ℕ → Plain → Type 0) → Weakens P Q → (fs : Fields) (O O' : List ℕ → Plain → Type 0) → Weakens O O' → Weakens (FieldsFit form P fs O) (FieldsFit form Q fs O')
     fields_where P Q f no_field O O' o n t r s = o n t r s
     fields_where P Q f (field x p V fs) O O' o n t r s = match_map (same_name n x) _ _ _ _ (fits_where P Q f V t r) (fields_where P Q f fs O O' o n t r) s
 
     choice_where : (P Q : List ℕ → Plain → Type 0) → Weakens P Q → (c : Choice) (C C' : (List ℕ → Plain → Type 0) → List ℕ → Plain → Type 0)
-        → ((O O' : List ℕ → Plain → Type 0) → Weakens O O' → Weakens (C O) (C' O')) → (o : Rest) (es : Entries) → Weakens (ChoiceFits P c C o es) (ChoiceFits Q c C' o es)
+        → ((O O' : List ℕ → Plain → Type 0) → Weakens O O' → Weakens (C O) (C' O')) → (o : Rest) (es : Entries) → Weakens (ChoiceFits form P c C o es) (ChoiceFits form Q c C' o es)
     choice_where P Q f no_choice C C' g o es n t r s = g (Unknown o) (Unknown o) (λ m u _ w. w) n t r s
-    choice_where P Q f (choice tag cs) C C' g o es n t r s = match_map (same_name n tag) _ _ _ _ (λ w. w) (g (CasesFit P tag cs o es) (CasesFit Q tag cs o es) (cases_where P Q f tag cs o es) n t r) s
+    choice_where P Q f (choice tag cs kept) C C' g o es n t r s = match_map (same_name n tag) _ _ _ _ (λ w. w) (g (CasesFit form P tag cs o es) (CasesFit form Q tag cs o es) (cases_where P Q f tag cs o es) n t r) s
 
-    cases_where : (P Q : List ℕ → Plain → Type 0) → Weakens P Q → (tag : List ℕ) (cs : Cases) (o : Rest) (es : Entries) → Weakens (CasesFit P tag cs o es) (CasesFit Q tag cs o es)
+    cases_where : (P Q : List ℕ → Plain → Type 0) → Weakens P Q → (tag : List ℕ) (cs : Cases) (o : Rest) (es : Entries) → Weakens (CasesFit form P tag cs o es) (CasesFit form Q tag cs o es)
     cases_where P Q f tag no_case o es n t r s = s
     cases_where P Q f tag (case l fs cs) o es n t r s =
         match_map (has_tag tag l es) _ _ _ _ (fields_where P Q f fs (Unknown o) (Unknown o) (λ m u _ w. w) n t r) (cases_where P Q f tag cs o es n t r) s
 
   -- at a guarded template the trees at points are parts of the tree
-  pub fits_falls : (P Q : List ℕ → Plain → Type 0) → Weakens P Q → (V : Template) (t : Plain) → is_guarded V ≡ true → PartsHave R t → Fits P V t → Fits Q V t
+  pub fits_falls : (P Q : List ℕ → Plain → Type 0) → Weakens P Q → (V : Template) (t : Plain) → is_guarded V ≡ true → PartsHave R t → Fits form P V t → Fits form Q V t
   fits_falls P Q f (leaf k) t g r s = s
-  fits_falls P Q f any t g r s = tt
-  fits_falls P Q f (list V) t g r s = list_where R (Fits P V) (Fits Q V) (fits_where P Q f V) t r s
+  fits_falls P Q f any t g r s = s
+  fits_falls P Q f (list V) t g r s = list_where R (Fits form P V) (Fits form Q V) (fits_where P Q f V) t r s
   fits_falls P Q f (point n) t g r s = absurd (true≢false (sym g))
   fits_falls P Q f (rec fs c o) t g r s =
-      map_where R (RecordFits P fs c o) (RecordFits Q fs c o) (λ es q both. (both.0, entries_where R _ _ (choice_where P Q f c (FieldsFit P fs) (FieldsFit Q fs) (fields_where P Q f fs) o es) es q both.1)) t r s
+      map_where R (RecordFits form P fs c o) (RecordFits form Q fs c o) (λ es q both. (both.0, entries_where R _ _ (choice_where P Q f c (FieldsFit form P fs) (FieldsFit form Q fs) (fields_where P Q f fs) o es) es q both.1)) t r s
   fits_falls P Q f (sum V W) t g r s =
       let both = split_and (is_guarded V) (is_guarded W) g in
       elim s [ inl x ↦ inl (fits_falls P Q f V t both.0 r x) | inr y ↦ inr (fits_falls P Q f W t both.1 r y) ]
 
-inhabits_more : (body : List ℕ → Template) (k : ℕ) (n : List ℕ) (t : Plain) → InhabitsWithin body k n t → InhabitsWithin body (suc k) n t
-inhabits_more body zero n t s = absurd s
-inhabits_more body (suc k) n t s = fits_where Whatever whatever_down (InhabitsWithin body k) (InhabitsWithin body (suc k)) (λ m u _ w. inhabits_more body k m u w) (body n) t tt s
+inhabits_more : (form : Form) (body : List ℕ → Template) (k : ℕ) (n : List ℕ) (t : Plain) → InhabitsWithin form body k n t → InhabitsWithin form body (suc k) n t
+inhabits_more form body zero n t s = absurd s
+inhabits_more form body (suc k) n t s = fits_where form Whatever whatever_down (InhabitsWithin form body k) (InhabitsWithin form body (suc k)) (λ m u _ w. inhabits_more form body k m u w) (body n) t tt s
 
 pub within_or_at : (j k : ℕ) → j ≤ suc k → (j ≤ k) ⊎ (j ≡ suc k)
 within_or_at j k le = grind arith
 
 -- more points may stand on each way down
-pub inhabits_up : (body : List ℕ → Template) (j k : ℕ) → j ≤ k → (n : List ℕ) (t : Plain) → InhabitsWithin body j n t → InhabitsWithin body k n t
-inhabits_up body j zero le n t s = let e : j ≡ 0 = omega arith in subst (λ i. InhabitsWithin body i n t) e s
-inhabits_up body j (suc k) le n t s =
-    elim (within_or_at j k le) [ inl lt ↦ inhabits_more body k n t (inhabits_up body j k lt n t s) | inr e ↦ subst (λ i. InhabitsWithin body i n t) e s ]
+pub inhabits_up : (form : Form) (body : List ℕ → Template) (j k : ℕ) → j ≤ k → (n : List ℕ) (t : Plain) → InhabitsWithin form body j n t → InhabitsWithin form body k n t
+inhabits_up form body j zero le n t s = let e : j ≡ 0 = omega arith in subst (λ i. InhabitsWithin form body i n t) e s
+inhabits_up form body j (suc k) le n t s =
+    elim (within_or_at j k le) [ inl lt ↦ inhabits_more form body k n t (inhabits_up form body j k lt n t s) | inr e ↦ subst (λ i. InhabitsWithin form body i n t) e s ]
 
-module _ (body : List ℕ → Template) (guarded : (n : List ℕ) → is_guarded (body n) ≡ true) where
+module _ (form : Form) (body : List ℕ → Template) (guarded : (n : List ℕ) → is_guarded (body n) ≡ true) where
   -- no way down has more points than levels
-  pub deep_enough : (k : ℕ) (n : List ℕ) (t : Plain) → InhabitsWithin body k n t → Inhabits body n t
+  pub deep_enough : (k : ℕ) (n : List ℕ) (t : Plain) → InhabitsWithin form body k n t → Inhabits form body n t
   deep_enough zero n t s = absurd s
   deep_enough (suc k) n t s =
-      fits_falls (λ u. depth u < depth t) (depth_down (depth t)) (InhabitsWithin body k) (InhabitsWithin body (depth t))
-      (λ m u lt w. inhabits_up body (suc (depth u)) (depth t) lt m u (deep_enough k m u w)) (body n) t (guarded n) (parts_below t) s
+      fits_falls form (λ u. depth u < depth t) (depth_down (depth t)) (InhabitsWithin form body k) (InhabitsWithin form body (depth t))
+      (λ m u lt w. inhabits_up form body (suc (depth u)) (depth t) lt m u (deep_enough k m u w)) (body n) t (guarded n) (parts_below t) s
 
-  pub inhabits_unfold : (n : List ℕ) (t : Plain) → Inhabits body n t ↔ Fits (Inhabits body) (body n) t
+  pub inhabits_unfold : (n : List ℕ) (t : Plain) → Inhabits form body n t ↔ Fits form (Inhabits form body) (body n) t
   inhabits_unfold n t = (
-    (λ s. fits_where Whatever whatever_down (InhabitsWithin body (depth t)) (Inhabits body) (λ m u _ w. deep_enough (depth t) m u w) (body n) t tt s),
-    (λ s. fits_falls (λ u. depth u < depth t) (depth_down (depth t)) (Inhabits body) (InhabitsWithin body (depth t)) (λ m u lt w. inhabits_up body (suc (depth u)) (depth t) lt m u w) (body n) t (guarded n) (parts_below t) s),
+    (λ s. fits_where form Whatever whatever_down (InhabitsWithin form body (depth t)) (Inhabits form body) (λ m u _ w. deep_enough (depth t) m u w) (body n) t tt s),
+    (λ s. fits_falls form (λ u. depth u < depth t) (depth_down (depth t)) (Inhabits form body) (InhabitsWithin form body (depth t)) (λ m u lt w. inhabits_up form body (suc (depth u)) (depth t) lt m u w) (body n) t (guarded n) (parts_below t) s),
   )

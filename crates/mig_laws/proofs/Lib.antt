@@ -7,6 +7,5 @@ pub mod Exact
 pub mod Formed
 pub mod Laws
 pub mod Reading
-pub mod Treats
-pub mod Folds
+pub mod Versions
 mod Examples

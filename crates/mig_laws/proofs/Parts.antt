@@ -6,7 +6,7 @@ use Rattle.mig_model.specs.Plain as plain
 use Rattle.mig_model.specs.Plain.{Plain, Trees, no_tree, tree, Pairs, no_pair, pair, items, entries}
 use Rattle.mig_model.specs.Kinds.{kind_of}
 use Rattle.mig_model.specs.Template.{is_of_form}
-use Rattle.mig_model.specs.Inhabits.{Entries, EachItem, EachEntry, is_in_form, items_in_form, entries_in_form, depth, items_depth, entries_depth}
+use Rattle.mig_model.specs.Inhabits.{Entries, EachItem, EachEntry, may_be_items, is_in_form, items_in_form, entries_in_form, depth, items_depth, entries_depth}
 use Rattle.mig_laws.proofs.Tests.{split_and}
 
 -- each item of the list, or each tree of the map, has the property; any other tree has no parts
@@ -66,7 +66,7 @@ entries_of_form form (pair n t ps) e = let both = split_and (is_in_form form t) 
 
 -- the parts of a tree of the form are of the form
 pub in_form_down : (form : Form) → PassesDown (λ u. IsTrue (is_in_form form u))
-in_form_down form (plain.list ts) e = items_of_form form ts e
+in_form_down form (plain.list ts) e = items_of_form form ts (split_and (may_be_items form ts) (items_in_form form ts) e).1
 in_form_down form (plain.map ps) e = entries_of_form form ps e
 in_form_down form t e = tt
 

@@ -15,7 +15,7 @@ use Rattle.mig_model.specs.Names.{by_bytes, found}
 use Rattle.mig_model.specs.Template.{Template, sum, Fields, no_field, field, Field, fields_of, field_list, choice, Cases, no_case, case, case_list, same_name, has_kind, is_must, is_open}
 use Rattle.mig_model.specs.Fields.{find_field}
 use Rattle.mig_model.specs.Inhabits.{Entries, has_tag}
-use Rattle.mig_model.specs.Place.{Place, Wrong, named, index, sooner, under, or_else, wrong_item, at_name, wrong_entry, missing, missing_in_case, is_literal, wrong_map, unless, wrong, wrong_fields, wrong_cases}
+use Rattle.mig_model.specs.Place.{Place, Wrong, named, index, sooner, under, or_else, wrong_item, at_name, wrong_entry, missing, missing_in_case, is_literal, is_tagged, wrong_map, unless, wrong, wrong_fields, wrong_cases}
 
 drop_at : {X : Type 0} (xs : List X) (i : ℕ) (x : X) → i < length xs → x ≡ get_or xs i x → drop i xs ≡ x ∷ drop (i + 1) xs
 drop_at xs i x l e = drop-cons xs i x l ∙ (λ j. sym e j ∷ drop (sym (add-one i) j) xs)
@@ -84,13 +84,13 @@ module _ (form : Form) (w : List ℕ → Plain → Option Place) where
       go true h rest = absurd (cc)
       go false h rest = rest h
 
--- a record with a choice, by whether its tag is a literal
-pub wrong_if_literal : (fs : Fields) (tag : List ℕ) (cs : Cases) (es : Entries) (bad : Wrong) → is_literal tag cs es ≡ true
-    → wrong_map fs (choice tag cs) es bad ≡ under (sooner bad (sooner (missing fs es) (missing_in_case tag cs es)))
-wrong_if_literal fs tag cs es bad e = rw e refl
+-- a record with a choice, by whether its tag is a literal or another text that is kept
+pub wrong_if_tagged : (fs : Fields) (tag : List ℕ) (cs : Cases) (kept : Bool) (es : Entries) (bad : Wrong) → is_tagged tag cs kept es ≡ true
+    → wrong_map fs (choice tag cs kept) es bad ≡ under (sooner bad (sooner (missing fs es) (missing_in_case tag cs es)))
+wrong_if_tagged fs tag cs kept es bad e = rw e refl
 
-pub wrong_if_no_literal : (fs : Fields) (tag : List ℕ) (cs : Cases) (es : Entries) (bad : Wrong) → is_literal tag cs es ≡ false → wrong_map fs (choice tag cs) es bad ≡ Some (named tag ∷ [])
-wrong_if_no_literal fs tag cs es bad e = rw e refl
+pub wrong_if_not_tagged : (fs : Fields) (tag : List ℕ) (cs : Cases) (kept : Bool) (es : Entries) (bad : Wrong) → is_tagged tag cs kept es ≡ false → wrong_map fs (choice tag cs kept) es bad ≡ Some (named tag ∷ [])
+wrong_if_not_tagged fs tag cs kept es bad e = rw e refl
 
 -- the tag is none of the literals: it is not there, it is no text, or it is another text
 pub no_literal : (tag : List ℕ) (cs : Cases) (es : Entries) → ((l : List ℕ) → has_tag tag l es ≡ false) → is_literal tag cs es ≡ false
@@ -124,6 +124,24 @@ module _ (tag s : List ℕ) (es : Entries) (is : found tag es ≡ Some (plain.te
     where
       go : (b : Bool) → (if b then Some (field_list fs) else find_case s cs) ≡ Some ds → (find_case s cs ≡ Some ds → is_literal tag cs es ≡ true) → (b || is_literal tag cs es) ≡ true
       go true h rest = refl
+      go false h rest = rest h
+
+  -- no case has the literal: nothing is missing for a case, and nothing else in the map is wrong
+  pub missing_none_of : (cs : Cases) → find_case s cs ≡ None → missing_in_case tag cs es ≡ None
+  missing_none_of no_case e = refl
+  missing_none_of (case l fs cs) e = rw (tag_is l) (go (same_name s l) e (missing_none_of cs))
+    where
+      go : (b : Bool) → (if b then Some (field_list fs) else find_case s cs) ≡ None → (find_case s cs ≡ None → missing_in_case tag cs es ≡ None) → (if b then missing fs es else missing_in_case tag cs es) ≡ None
+      go true h rest = absurd (cc)
+      go false h rest = rest h
+
+  pub wrong_none_of : (form : Form) (w : List ℕ → Plain → Option Place) (r : Rest) (cs : Cases) → find_case s cs ≡ None → (n : List ℕ) (t : Plain) → wrong_cases form w tag cs r es n t ≡ None
+  wrong_none_of form w r no_case e n t = refl
+  wrong_none_of form w r (case l fs cs) e n t = rw (tag_is l) (go (same_name s l) e (λ h. wrong_none_of form w r cs h n t))
+    where
+      go : (b : Bool) → (if b then Some (field_list fs) else find_case s cs) ≡ None → (find_case s cs ≡ None → wrong_cases form w tag cs r es n t ≡ None)
+          → (if b then wrong_fields form w fs (λ m u. unless (is_open r)) n t else wrong_cases form w tag cs r es n t) ≡ None
+      go true h rest = absurd (cc)
       go false h rest = rest h
 
   case_fields : (fs : Fields) (ds : List Field) → Some (field_list fs) ≡ Some ds → fs ≡ fields_of ds

@@ -1,12 +1,12 @@
 -- A tree's kind tells which side of a sum it fits.
-use Rattle.std.proofs.Common.{◌≡◌, ◌⊎◌, inl, inr, refl, sym, ap, ◌∙◌, ℕ, List, Bool, true, false, true≢false, IsTrue}
+use Rattle.std.proofs.Common.{◌≡◌, ◌⊎◌, inl, inr, refl, sym, ap, ◌∙◌, ℕ, List, Bool, true, false, true≢false}
 use Rattle.std.specs.Prelude.{◌||◌}
 use Rattle.mig_model.specs.declared.form.Form.{Form}
 use Rattle.mig_model.specs.Plain as plain
 use Rattle.mig_model.specs.Plain.{Plain}
 use Rattle.mig_model.specs.Kinds.{kind_of}
 use Rattle.mig_model.specs.Template.{Template, leaf, any, list, point, rec, sum, same_kind, has_kind}
-use Rattle.mig_model.specs.Inhabits.{is_in_form, Fits}
+use Rattle.mig_model.specs.Inhabits.{Fits}
 use Rattle.mig_laws.specs.Sides.{is_guarded, is_side, AreSides}
 use Rattle.mig_laws.proofs.Tests.{split_and, same_kind_itself}
 use Rattle.mig_laws.proofs.Parts.{root_of_form}
@@ -19,7 +19,7 @@ right_or true b e = refl
 right_or false b e = e
 
 -- a tree that fits a side has one of its root kinds
-pub kind_told : (form : Form) (P : List ℕ → Plain → Type 0) (V : Template) (t : Plain) → is_side V ≡ true → Fits P V t → has_kind form V (kind_of t) ≡ true
+pub kind_told : (form : Form) (P : List ℕ → Plain → Type 0) (V : Template) (t : Plain) → is_side V ≡ true → Fits form P V t → has_kind form V (kind_of t) ≡ true
 kind_told form P (leaf k) t g s = ap (same_kind k) s ∙ same_kind_itself k
 kind_told form P any t g s = absurd (true≢false (sym g))
 kind_told form P (list V) (plain.list ts) g s = refl
@@ -34,23 +34,23 @@ kind_told form P (sum V W) t g s =
       | inr y ↦ right_or (has_kind form V (kind_of t)) (has_kind form W (kind_of t)) (kind_told form P W t both.1 y)
     ]
 
--- a tree of the form that fits a guarded template has one of its root kinds
-pub kind_shown : (form : Form) (P : List ℕ → Plain → Type 0) (V : Template) (t : Plain) → is_guarded V ≡ true → IsTrue (is_in_form form t) → Fits P V t → has_kind form V (kind_of t) ≡ true
-kind_shown form P any t g i s = root_of_form form t i
-kind_shown form P (point n) t g i s = absurd (true≢false (sym g))
-kind_shown form P (sum V W) t g i s =
+-- a tree that fits a guarded template has one of its root kinds
+pub kind_shown : (form : Form) (P : List ℕ → Plain → Type 0) (V : Template) (t : Plain) → is_guarded V ≡ true → Fits form P V t → has_kind form V (kind_of t) ≡ true
+kind_shown form P any t g s = root_of_form form t s
+kind_shown form P (point n) t g s = absurd (true≢false (sym g))
+kind_shown form P (sum V W) t g s =
     let both = split_and (is_guarded V) (is_guarded W) g in
     elim s [
-      | inl x ↦ left_or (has_kind form V (kind_of t)) (has_kind form W (kind_of t)) (kind_shown form P V t both.0 i x)
-      | inr y ↦ right_or (has_kind form V (kind_of t)) (has_kind form W (kind_of t)) (kind_shown form P W t both.1 i y)
+      | inl x ↦ left_or (has_kind form V (kind_of t)) (has_kind form W (kind_of t)) (kind_shown form P V t both.0 x)
+      | inr y ↦ right_or (has_kind form V (kind_of t)) (has_kind form W (kind_of t)) (kind_shown form P W t both.1 y)
     ]
-kind_shown form P (leaf k) t g i s = kind_told form P (leaf k) t refl s
-kind_shown form P (list V) t g i s = kind_told form P (list V) t refl s
-kind_shown form P (rec fs c o) t g i s = kind_told form P (rec fs c o) t refl s
+kind_shown form P (leaf k) t g s = kind_told form P (leaf k) t refl s
+kind_shown form P (list V) t g s = kind_told form P (list V) t refl s
+kind_shown form P (rec fs c o) t g s = kind_told form P (rec fs c o) t refl s
 
 -- the side that a tree fits, which its kind tells
-pub side_of : (form : Form) (P : List ℕ → Plain → Type 0) (V W : Template) (t : Plain) → AreSides form V W → Fits P (sum V W) t
-    → ((has_kind form V (kind_of t) ≡ true) × Fits P V t) ⊎ ((has_kind form V (kind_of t) ≡ false) × (has_kind form W (kind_of t) ≡ true) × Fits P W t)
+pub side_of : (form : Form) (P : List ℕ → Plain → Type 0) (V W : Template) (t : Plain) → AreSides form V W → Fits form P (sum V W) t
+    → ((has_kind form V (kind_of t) ≡ true) × Fits form P V t) ⊎ ((has_kind form V (kind_of t) ≡ false) × (has_kind form W (kind_of t) ≡ true) × Fits form P W t)
 side_of form P V W t a (inl x) = inl (kind_told form P V t a.left x, x)
 side_of form P V W t a (inr y) = let told = kind_told form P W t a.right y in inr (other (has_kind form V (kind_of t)) refl told, told, y)
   where

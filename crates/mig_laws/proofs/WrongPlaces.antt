@@ -57,7 +57,7 @@ module _ (form : Form) (R : Plain → Type 0) (down : PassesDown R) where
     choice_agree : (w v : List ℕ → Plain → Option Place) → Agree w v → (c : Choice) (k l : (List ℕ → Plain → Option Place) → List ℕ → Plain → Option Place)
         → ((a b : List ℕ → Plain → Option Place) → Agree a b → Agree (k a) (l b)) → (o : Rest) (es : Entries) → Agree (wrong_choice form w c k o es) (wrong_choice form v c l o es)
     choice_agree w v e no_choice k l g o es n t r = g _ _ (λ m u _. refl) n t r
-    choice_agree w v e (choice tag cs) k l g o es n t r = if_agree (same_name n tag) refl (g _ _ (cases_agree w v e tag cs o es) n t r)
+    choice_agree w v e (choice tag cs kept) k l g o es n t r = if_agree (same_name n tag) refl (g _ _ (cases_agree w v e tag cs o es) n t r)
 
     cases_agree : (w v : List ℕ → Plain → Option Place) → Agree w v → (tag : List ℕ) (cs : Cases) (o : Rest) (es : Entries) → Agree (wrong_cases form w tag cs o es) (wrong_cases form v tag cs o es)
     cases_agree w v e tag no_case o es n t r = refl

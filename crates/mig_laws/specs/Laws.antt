@@ -11,8 +11,8 @@ PlaceUnfolds = (f : Family) → IsFormed f → (n : List ℕ) (t : Plain) → pl
 
 -- a tree inhabits a named type where it fits the body, and what stands at points inhabits the types that they name
 abbrev pub InhabitsUnfolds : Type 0
-InhabitsUnfolds = (f : Family) → IsFormed f → (n : List ℕ) (t : Plain) → Inhabits (body f) n t ↔ Fits (Inhabits (body f)) (body f n) t
+InhabitsUnfolds = (f : Family) → IsFormed f → (n : List ℕ) (t : Plain) → Inhabits f.form (body f) n t ↔ Fits f.form (Inhabits f.form (body f)) (body f n) t
 
 -- there is no wrong place exactly where the tree inhabits
 abbrev pub PlaceIsExact : Type 0
-PlaceIsExact = (f : Family) → IsFormed f → (n : List ℕ) (t : Plain) → (place f n t ≡ None) ↔ Inhabits (body f) n t
+PlaceIsExact = (f : Family) → IsFormed f → (n : List ℕ) (t : Plain) → (place f n t ≡ None) ↔ Inhabits f.form (body f) n t

@@ -39,7 +39,7 @@ abbrev mutual
 
   pub ChoiceApart : Form → Choice → Type 0
   ChoiceApart form no_choice = Unit {0}
-  ChoiceApart form (choice tag cs) = CasesApart form cs
+  ChoiceApart form (choice tag cs kept) = CasesApart form cs
 
   pub CasesApart : Form → Cases → Type 0
   CasesApart form no_case = Unit {0}

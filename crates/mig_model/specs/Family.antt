@@ -5,7 +5,7 @@ use Rattle.mig_model.specs.declared.form.Form.{Form}
 use Rattle.mig_model.specs.declared.kind.Kind.{Kind}
 use Rattle.mig_model.specs.declared.kind.Kind.TheVariants as K
 use Rattle.mig_model.specs.declared.presence.Presence.{Presence}
-use Rattle.mig_model.specs.declared.presence.Presence.TheVariants.{Must, May}
+use Rattle.mig_model.specs.declared.presence.Presence.TheVariants.{Must}
 use Rattle.mig_model.specs.Template.{Template, leaf, any, list, point, rec, sum, Fields, no_field, field, Choice, no_choice, choice, Cases, no_case, case, same_name, is_of_form, is_nbt, is_leaf, has_kind}
 use Rattle.mig_model.specs.Fields.{find_field, is_field, is_in_choice}
 

@@ -1,5 +1,5 @@
 -- The version of a save, which stands under a path of names from the root.
-use Rattle.std.specs.Prelude.{◌≡◌, ℕ, List, [], ◌∷◌, Option, Some, None, option_and_then, option_map, if◌then◌else◌}
+use Rattle.std.specs.Prelude.{ℕ, List, ◌∷◌, Option, Some, None, option_and_then, if◌then◌else◌}
 use Rattle.mig_model.specs.Plain.{Plain, map, entries, on_entries, each_entry}
 use Rattle.mig_model.specs.Inhabits.{Entries}
 use Rattle.mig_model.specs.Kinds.{get_in, put_in, removed}

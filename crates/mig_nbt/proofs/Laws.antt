@@ -10,9 +10,10 @@ use Rattle.mig_model.specs.Names.{gathered}
 use Rattle.mig_model.proofs.Ascending.{gathered_sound, gathered_complete}
 use Rattle.mig_nbt.specs.declared.tag.Tag.{Tag}
 use Rattle.mig_nbt.specs.declared.tag.Tag.TheVariants.{End, Byte, Short, Int, Long, Float, Double, ByteArray, Text, Items, Compound, IntArray, LongArray}
-use Rattle.mig_nbt.specs.Format.{number_of, Number, are_groups, IsText, IsArray, Leaf, Payloads, IsList, Tags, IsCompound, Payload, NbtSave}
+use Rattle.mig_nbt.specs.Format.{number_of, Number, IsText, IsArray, Leaf, Payloads, IsList, Tags, IsCompound, Payload, NbtSave}
 use Rattle.mig_nbt.proofs.Loops.{going}
-use Rattle.mig_nbt.specs.Reading.{◌>>=◌, Read, seen, number_at, tag_of, tag_at, text_at, array_at, leaf_at, payloads_at, list_at, is_end, is_compound, tags_at, map_at, payload_at, save_at}
+use Rattle.mig_nbt.specs.Reading.{◌>>=◌, Read, seen, number_at, tag_of, tag_at, are_groups, text_at, array_at, leaf_at, payloads_at, list_at, is_end, is_compound, tags_at, map_at, payload_at, save_at}
+use Rattle.mig_nbt.proofs.Groups.{groups_pass, groups_of}
 
 bind_some : {A B : Type 0} (r : Option A) (f : A → Option B) (y : B) → (r >>= f) ≡ Some y → (x : A) × (r ≡ Some x) × (f x ≡ Some y)
 bind_some (Some x) f y e = (x, refl, e)
@@ -126,7 +127,7 @@ text_sound bytes s rest e =
     let r : drop n l ≡ rest = rest_is (take n l) (drop n l) s rest u.1 in
     let parts : l ≡ s ++ rest = sym (take-append-drop n l) ∙ (λ i. v i ++ r i) in
     let len : length s ≡ n = ap length (sym v) ∙ omega (arith, length-take n l) in
-    (h.0 ++ s, then_part bytes h.0 l s rest h.1 parts, (h.0, n, h.2, leb-false (2 ^ 16) n neither_is.0, len, sym (ap are_groups v) ∙ u.0, refl))
+    (h.0 ++ s, then_part bytes h.0 l s rest h.1 parts, (h.0, n, h.2, leb-false (2 ^ 16) n neither_is.0, len, groups_of s (sym (ap are_groups v) ∙ u.0), refl))
 
 text_complete : (b s rest : List ℕ) → IsText b s → text_at (b ++ rest) ≡ Some (s, rest)
 unfolding text_at
@@ -136,7 +137,7 @@ text_complete b s rest p =
     let whole : b ++ rest ≡ h ++ (s ++ rest) = ap (λ (l : List ℕ). l ++ rest) p.6 ∙ append_assoc h s rest in
     let few : nat_le (2 ^ 16) n ≡ false = lt-leb _ _ p.3 in
     let long : nat_lt (length (s ++ rest)) n ≡ false = le-ltb _ _ (omega (arith, length-append s rest, p.4)) in
-    rw (whole, number_complete w16 h n (s ++ rest) p.2, few, long, take_at s rest n p.4, drop_at s rest n p.4, p.5) refl
+    rw (whole, number_complete w16 h n (s ++ rest) p.2, few, long, take_at s rest n p.4, drop_at s rest n p.4, groups_pass s p.5) refl
 
 array_sound : (size : ℕ) (bytes s rest : List ℕ) → array_at size bytes ≡ Some (s, rest) → InFront (λ b. IsArray size b s) bytes rest
 unfolding array_at

@@ -1,5 +1,5 @@
 -- The NBT format, as a relation between bytes and trees.
-use Rattle.std.specs.Prelude.{◌≡◌, ℕ, zero, suc, ◌*◌, ◌<◌, ◌≤◌, ◌^◌, List, [], ◌∷◌, ◌++◌, length, Bool, true, false, ◌&&◌, nat_lt, nat_le, ◌==◌, Option, Some, None, if◌then◌else◌, IsPermutation}
+use Rattle.std.specs.Prelude.{◌≡◌, ℕ, suc, ◌*◌, ◌<◌, ◌≤◌, ◌^◌, List, [], ◌∷◌, ◌++◌, length, IsPermutation}
 use Rattle.std.specs.Int.{Width, w8, w16, w32, w64, byte_len, from_be_bytes, cast_signed}
 use Rattle.mig_model.specs.Plain as plain
 use Rattle.mig_model.specs.Plain.{Plain, trees_of, pairs_of}
@@ -27,26 +27,20 @@ number_of LongArray = 12
 abbrev pub Number : Width → List ℕ → ℕ → Type 0
 Number w b n = (length b ≡ byte_len w) × (n ≡ from_be_bytes w b)
 
-abbrev pub is_more : ℕ → Bool
-is_more b = nat_le 128 b && nat_lt b 192
+-- a byte behind the first of a group
+abbrev pub IsMore : ℕ → Type 0
+IsMore b = (128 ≤ b) × (b < 192)
 
--- how many more bytes the group of this byte has, behind a byte at which so many were still to come
-abbrev pub still_to_come : ℕ → ℕ → Option ℕ
-still_to_come zero b = if nat_lt b 128 then Some 0 else (if nat_le 192 b && nat_lt b 224 then Some 1 else (if nat_le 224 b && nat_lt b 240 then Some 2 else None))
-still_to_come (suc n) b = if is_more b then Some n else None
-
--- with so many bytes still to come of the first group, the bytes are groups of one, two or three bytes, as `DataInput.readUTF` takes them
-abbrev pub groups_from : Option ℕ → List ℕ → Bool
-groups_from None b = false
-groups_from (Some n) [] = n == 0
-groups_from (Some n) (b ∷ bs) = groups_from (still_to_come n b) bs
-
-abbrev pub are_groups : List ℕ → Bool
-are_groups b = groups_from (Some 0) b
+-- groups of one, two or three bytes, as `DataInput.readUTF` takes them
+pub data Groups : List ℕ → Type 0 where
+  none : Groups []
+  one : {a : ℕ} {rest : List ℕ} → a < 128 → Groups rest → Groups (a ∷ rest)
+  two : {a b : ℕ} {rest : List ℕ} → 192 ≤ a → a < 224 → IsMore b → Groups rest → Groups (a ∷ (b ∷ rest))
+  three : {a b c : ℕ} {rest : List ℕ} → 224 ≤ a → a < 240 → IsMore b → IsMore c → Groups rest → Groups (a ∷ (b ∷ (c ∷ rest)))
 
 -- two bytes of length, and that many bytes, which are groups
 abbrev pub IsText : List ℕ → List ℕ → Type 0
-IsText b s = (h : List ℕ) × (n : ℕ) × Number w16 h n × (n < 2 ^ 16) × (length s ≡ n) × (are_groups s ≡ true) × (b ≡ h ++ s)
+IsText b s = (h : List ℕ) × (n : ℕ) × Number w16 h n × (n < 2 ^ 16) × (length s ≡ n) × Groups s × (b ≡ h ++ s)
 
 -- a count that isn't negative, and that many elements of so many bytes
 abbrev pub IsArray : ℕ → List ℕ → List ℕ → Type 0

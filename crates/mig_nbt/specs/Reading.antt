@@ -1,5 +1,5 @@
 -- Reading from left to right: a value and the bytes after it, or nothing.
-use Rattle.std.specs.Prelude.{◌≡◌, ℕ, zero, suc, ◌*◌, ◌^◌, List, [], ◌∷◌, length, take, drop, Bool, true, false, Option, Some, None, Result, Ok, Err, nat_lt, nat_le, ◌||◌, ◌==◌, if◌then◌else◌}
+use Rattle.std.specs.Prelude.{◌≡◌, ℕ, zero, suc, ◌*◌, ◌^◌, List, [], ◌∷◌, length, take, drop, Bool, true, false, ◌&&◌, Option, Some, None, Result, Ok, Err, nat_lt, nat_le, ◌||◌, ◌==◌, if◌then◌else◌}
 use Rattle.std.specs.Int.{Width, w8, w16, w32, w64, byte_len, from_be_bytes, cast_signed}
 use Rattle.mig_model.specs.Plain as plain
 use Rattle.mig_model.specs.Plain.{Plain, trees_of, pairs_of}
@@ -8,7 +8,6 @@ use Rattle.mig_nbt.specs.declared.error.NbtError.{NbtError}
 use Rattle.mig_nbt.specs.declared.error.NbtError.TheVariants as errors
 use Rattle.mig_nbt.specs.declared.tag.Tag.{Tag}
 use Rattle.mig_nbt.specs.declared.tag.Tag.TheVariants.{End, Byte, Short, Int, Long, Float, Double, ByteArray, Text, Items, Compound, IntArray, LongArray}
-use Rattle.mig_nbt.specs.Format.{are_groups}
 
 infixl 10 ◌>>=◌
 abbrev pub ◌>>=◌ : {A B : Type 0} → Option A → (A → Option B) → Option B
@@ -41,6 +40,24 @@ tag_at [] = None
 tag_at (n ∷ rest) = do
   k ← tag_of n
   Some (k, rest)
+
+-- the automaton that tells groups
+abbrev pub is_more : ℕ → Bool
+is_more b = nat_le 128 b && nat_lt b 192
+
+-- how many more bytes the group of this byte has, behind a byte at which so many were still to come
+abbrev pub still_to_come : ℕ → ℕ → Option ℕ
+still_to_come zero b = if nat_lt b 128 then Some 0 else (if nat_le 192 b && nat_lt b 224 then Some 1 else (if nat_le 224 b && nat_lt b 240 then Some 2 else None))
+still_to_come (suc n) b = if is_more b then Some n else None
+
+-- with so many bytes still to come of the first group, the bytes are groups of one, two or three bytes, as `DataInput.readUTF` takes them
+abbrev pub groups_from : Option ℕ → List ℕ → Bool
+groups_from None b = false
+groups_from (Some n) [] = n == 0
+groups_from (Some n) (b ∷ bs) = groups_from (still_to_come n b) bs
+
+abbrev pub are_groups : List ℕ → Bool
+are_groups b = groups_from (Some 0) b
 
 unfoldable pub text_at : List ℕ → Read (List ℕ)
 text_at bytes = do

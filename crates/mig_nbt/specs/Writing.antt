@@ -1,10 +1,10 @@
 -- The canonical text of a tree.
-use Rattle.std.specs.Prelude.{◌≡◌, ℕ, ◌*◌, ◌/◌, ◌^◌, ◌<◌, List, [], ◌∷◌, ◌++◌, length, true}
+use Rattle.std.specs.Prelude.{◌≡◌, ℕ, ◌*◌, ◌/◌, ◌^◌, ◌<◌, List, [], ◌∷◌, ◌++◌, length}
 use Rattle.std.specs.Int.{w8, w16, w32, w64, to_be_bytes, cast_unsigned}
 use Rattle.mig_model.specs.Plain.{Plain, byte, short, int, long, float, double, text, bytes, ints, longs, list, map, null, boolean, whole, Trees, no_tree, tree, Pairs, no_pair, pair, items}
 use Rattle.mig_nbt.specs.declared.tag.Tag.{Tag}
 use Rattle.mig_nbt.specs.declared.tag.Tag.TheVariants as T
-use Rattle.mig_nbt.specs.Format.{number_of, are_groups}
+use Rattle.mig_nbt.specs.Format.{number_of, Groups}
 
 -- the tag of a tree; the kinds of JSON have none
 abbrev pub tag_of_plain : Plain → Tag
@@ -65,7 +65,7 @@ save_text name t = 10 ∷ (text_bytes name ++ payload t)
 
 -- groups, and at most 65,535 bytes
 abbrev pub IsName : List ℕ → Type 0
-IsName s = (are_groups s ≡ true) × (length s < 2 ^ 16)
+IsName s = Groups s × (length s < 2 ^ 16)
 
 -- all of one tag
 abbrev pub AreOf : Tag → Trees → Type 0

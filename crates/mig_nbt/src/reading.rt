@@ -1,7 +1,6 @@
 ghost use Rattle.std.specs.Prelude.{IfOk, Err, ℕ, List, map, ◌≡◌, ◌+◌, ◌*◌, ◌^◌, ◌<◌, ◌≤◌, length, IsTrue, ◌↔◌, Some, None};
 ghost use Rattle.std.specs.Int.{w8, w16, w32, w64};
-ghost use Rattle.mig_nbt.specs.Format.{are_groups, still_to_come, is_more};
-ghost use Rattle.mig_nbt.specs.Reading.{Gives, number_at, tag_of, tag_at, text_at, array_at, leaf_at, payload_at, payloads_at, list_at, tags_at, map_at, save_at};
+ghost use Rattle.mig_nbt.specs.Reading.{Gives, are_groups, still_to_come, is_more, number_at, tag_of, tag_at, text_at, array_at, leaf_at, payload_at, payloads_at, list_at, tags_at, map_at, save_at};
 ghost use Rattle.mig_nbt.specs.Format.{NbtSave};
 ghost use Rattle.mig_model.specs.Plain.{Plain};
 ghost use Rattle.mig_model.specs.Kinds.{IsMap};

@@ -45,6 +45,7 @@ module _ (f : Family) where
   found_first S.SumOverlap once h = first_is model.sum_overlap once h
   found_first S.MixedList once h = first_is model.mixed_list once h
   found_first S.RootNotRecord once h = first_is model.root_not_record once h
+  found_first S.VersionPath once h = first_is model.version_path once h
   found_first S.VersionNameUsed once h = first_is model.version_name_used once h
   found_first S.Memory once h = absurd h
 
@@ -59,5 +60,6 @@ found_is_fault S.Unguarded first h = h
 found_is_fault S.SumOverlap first h = h
 found_is_fault S.MixedList first h = h
 found_is_fault S.RootNotRecord first h = h
+found_is_fault S.VersionPath first h = h
 found_is_fault S.VersionNameUsed first h = h
 found_is_fault S.Memory first h = absurd h

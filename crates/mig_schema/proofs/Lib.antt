@@ -1,6 +1,9 @@
 pub mod Among
 pub mod First
+pub mod Paths
 pub mod Reached
 pub mod Search
+pub mod Spots
 pub mod Types
+pub mod Ways
 pub mod Within

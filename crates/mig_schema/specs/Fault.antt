@@ -15,6 +15,7 @@ flaw_of S.Unguarded = Some model.unguarded
 flaw_of S.SumOverlap = Some model.sum_overlap
 flaw_of S.MixedList = Some model.mixed_list
 flaw_of S.RootNotRecord = Some model.root_not_record
+flaw_of S.VersionPath = Some model.version_path
 flaw_of S.VersionNameUsed = Some model.version_name_used
 flaw_of S.Memory = None
 
@@ -41,4 +42,4 @@ first_flaws = model.too_many ∷ model.too_deep ∷ model.wrong_kind ∷ model.u
 
 -- the flaws that are looked for where there is none of those
 abbrev pub later_flaws : List Flaw
-later_flaws = model.sum_overlap ∷ model.mixed_list ∷ model.root_not_record ∷ model.version_name_used ∷ []
+later_flaws = model.sum_overlap ∷ model.mixed_list ∷ model.root_not_record ∷ model.version_path ∷ model.version_name_used ∷ []

@@ -3,3 +3,4 @@ pub mod Code
 pub mod Fault
 pub mod Check
 pub mod Reach
+pub mod Version

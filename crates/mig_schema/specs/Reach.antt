@@ -21,7 +21,7 @@ abbrev mutual
 
   pub choice_points : Choice → List (List ℕ)
   choice_points no_choice = []
-  choice_points (choice tag cs) = case_points cs
+  choice_points (choice tag cs kept) = case_points cs
 
   pub case_points : Cases → List (List ℕ)
   case_points no_case = []

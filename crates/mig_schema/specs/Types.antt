@@ -24,7 +24,7 @@ named_all ts = map named_of ts
 abbrev pub AllKept : List Named → Type 0
 AllKept ts = AllByRecursion (λ t. IsKept t.1) ts
 
-abbrev pub family_of : Form → List ℕ → List Named → List ℕ → Family
+abbrev pub family_of : Form → List (List ℕ) → List Named → List ℕ → Family
 family_of form version types root = record { form = form; version = version; types = types; root = root }
 
 -- the place of the first such named type, in the order of declaration

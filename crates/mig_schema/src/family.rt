@@ -10,11 +10,11 @@ ghost use Rattle.mig_schema.specs.Reach.{Reaches};
 use crate::checks::Check;
 use crate::named::NamedTypes;
 use crate::parts::Parts;
-use crate::{Form, Memory, Name, SchemaFault, Template};
+use crate::{Form, Memory, Name, SchemaFault, Template, VersionPath};
 use std::alloc::Global;
 use std::marker::Model;
 
-/// A formed family: a form, the version name, named templates and the name of the root. Contracts see a plain family. The rules are this project's own.
+/// A formed family: a form, the version path, named templates and the name of the root. Contracts see a plain family. The rules are this project's own.
 #[derive(Debug, Drop)]
 pub struct Family {
     parts: Parts,
@@ -39,7 +39,7 @@ impl Family {
     pub fn new(
         alloc: Global,
         form: Form,
-        version: Name,
+        version: VersionPath,
         types: Vec<(Name, Template)>,
         root: Name,
     ) -> Result<Family, SchemaFault>
@@ -73,11 +73,11 @@ impl Family {
         self.parts.form()
     }
 
-    /// The version name.
-    pub fn version(&self) -> &Name
+    /// The version path.
+    pub fn version_path(&self) -> &VersionPath
         ensures { result.now ≡ self.now.version }
     {
-        self.parts.version()
+        self.parts.version_path()
     }
 
     /// The root's name.
@@ -146,12 +146,12 @@ impl Family {
         self.parts.reaches(alloc, from, to)
     }
 
-    /// Whether form, version name, root, the set of names and each body are equal. The order of the types doesn't count.
+    /// Whether form, version path, root, the set of names and each body are equal. The order of the types doesn't count.
     pub fn same(&self, other: &Family) -> bool
         ensures { IsTrue result ↔ IsSame self.now other.now }
     {
         self.form() == other.form()
-            && self.version() == other.version()
+            && self.version_path().same(other.version_path())
             && self.root() == other.root()
             && self.parts.types().same(other.parts.types())
     }

@@ -35,8 +35,11 @@ pub enum SchemaFault {
     /// The root's body isn't a record.
     #[error("the root is no record")]
     RootNotRecord,
-    /// The root's record has the version name as a field, tag or case field.
-    #[error("the root uses the version name")]
+    /// A name of the version path but the last isn't a common Must field of its record, or the path leads to what isn't a record.
+    #[error("the version path leads to no record")]
+    VersionPath,
+    /// The record that the version path leads to has the path's last name as a field, tag or case field.
+    #[error("the version's name is used")]
     VersionNameUsed,
     /// Want of memory.
     #[error("out of memory")]

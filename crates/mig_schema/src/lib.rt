@@ -9,8 +9,10 @@ mod kinds;
 mod named;
 mod parts;
 mod reach;
+mod version;
 
 pub use family::Family;
 pub use fault::SchemaFault;
 pub use mig_template::{Template, TemplateBox};
 pub use mig_tree::{Form, Kind, Memory, Name};
+pub use version::VersionPath;

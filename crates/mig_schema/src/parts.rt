@@ -1,21 +1,22 @@
 ghost use Rattle.std.specs.Prelude.{◌≡◌, ◌||◌, false, length, option_map, nat_lt, IfOk};
 ghost use Rattle.std.specs.List.{slice_get};
 ghost use Rattle.std.specs.Map.{keys_of};
-ghost use Rattle.mig_model.specs.Family.{find_type, is_named, any_type, is_record, uses_name, has_flaw, first_of, first_flaw};
+ghost use Rattle.mig_model.specs.Family.{find_type, is_named, any_type, is_record, uses_name, must_field, way_end, version_record, has_flaw, first_of, first_flaw};
 ghost use Rattle.mig_model.specs.Fields.{is_field, is_in_choice};
 ghost use Rattle.mig_model.specs.Template.{fields_of, cases_of};
 ghost use Rattle.mig_model.specs.Template as plain;
 ghost use Rattle.mig_model.specs.Family as flaws;
+ghost use Rattle.mig_template.specs.Parts.{record_of};
 ghost use Rattle.mig_template.specs.View.{template_of};
 ghost use Rattle.mig_schema.specs.Types.{named_all, family_of, AllKept};
-ghost use Rattle.mig_schema.specs.Check.{body_fails};
+ghost use Rattle.mig_schema.specs.Check.{body_fails, record_only};
 ghost use Rattle.mig_schema.specs.Fault.{IsFound, first_flaws, later_flaws};
 
 use crate::checks::{Check, is_point};
 use crate::depth::is_deeper;
 use crate::named::NamedTypes;
-use crate::{Form, Memory, Name, SchemaFault, Template};
-use mig_template::{Choice, Fields};
+use crate::{Form, Memory, Name, SchemaFault, Template, VersionPath};
+use mig_template::{Choice, Fields, Presence, Record};
 use std::alloc::Global;
 use std::cmp::Ordering;
 use std::marker::Model;
@@ -24,7 +25,7 @@ use std::marker::Model;
 #[derive(Debug, Drop)]
 pub struct Parts {
     form: Form,
-    version: Name,
+    version: VersionPath,
     types: NamedTypes,
     root: Name,
 }
@@ -54,7 +55,7 @@ impl Model for Parts {
 
 impl Parts {
     /// These parts.
-    pub fn new(form: Form, version: Name, types: NamedTypes, root: Name) -> Parts
+    pub fn new(form: Form, version: VersionPath, types: NamedTypes, root: Name) -> Parts
         ensures { result ≡ family_of form version types root }
     {
         Parts {
@@ -87,8 +88,8 @@ impl Parts {
         self.form
     }
 
-    /// The version name.
-    pub fn version(&self) -> &Name
+    /// The version path.
+    pub fn version_path(&self) -> &VersionPath
         ensures { result.now ≡ self.now.version }
     {
         &self.version
@@ -132,7 +133,7 @@ fn is_field(fields: &Fields, name: &[u8]) -> bool
 
 /// Whether the name is the tag or a field of a case.
 fn is_in_choice(choice: &Choice, name: &[u8]) -> bool
-    ensures { result ≡ is_in_choice name.now (plain.choice choice.now.0 (cases_of choice.now.1)) }
+    ensures { result ≡ is_in_choice name.now (plain.choice choice.now.0 (cases_of choice.now.1) choice.now.2) }
 {
     if name.cmp(choice.tag().bytes()) == Ordering::Equal {
         return true;
@@ -145,21 +146,29 @@ fn is_in_choice(choice: &Choice, name: &[u8]) -> bool
     false
 }
 
-/// Whether the name is a field, the tag or a case field of the body, which is a record.
-fn uses_name(body: &Template, name: &[u8]) -> bool
-    ensures { result ≡ uses_name name.now (template_of body.now) }
+/// Whether the name is a field, the tag or a case field of the record.
+fn uses_name(parts: &Record, name: &[u8]) -> bool
+    ensures { result ≡ uses_name name.now (record_of parts.now) }
 {
-    match body {
-        Template::Rec(parts) => {
-            if is_field(parts.fields(), name) {
-                return true;
-            }
-            match parts.choice() {
-                Some(choice) => is_in_choice(choice, name),
-                None => false,
-            }
-        }
-        _ => false,
+    if is_field(parts.fields(), name) {
+        return true;
+    }
+    match parts.choice() {
+        Some(choice) => is_in_choice(choice, name),
+        None => false,
+    }
+}
+
+/// The template of the common field of that name, where the field has to be there.
+fn must_field<'r>(parts: &'r Record, name: &[u8]) -> Option<&'r Template>
+    ensures { option_map (λ t. template_of t.now) result ≡ must_field name.now (record_of parts.now) }
+{
+    match parts.fields().get(name) {
+        Some(field) => match field.presence {
+            Presence::Must => Some(&field.template),
+            Presence::May => None,
+        },
+        None => None,
     }
 }
 
@@ -225,12 +234,48 @@ impl Parts {
         }
     }
 
-    /// Whether the root's record has the version name.
+    /// The record at the end of the way from the template, and `None` where the way leads to none.
+    fn way_end<'s>(&'s self, names: &[Name], template: &'s Template) -> Option<&'s Record>
+        ensures { option_map (λ r. record_of r.now) result ≡ record_only (way_end self.now names.now (template_of template.now)) }
+    {
+        let Template::Rec(record) = template else {
+            return None;
+        };
+        let Some((name, rest)) = names.split_first() else {
+            return Some(record);
+        };
+        if rest.is_empty() {
+            return Some(record);
+        }
+        match must_field(record, name.bytes())? {
+            Template::Point(name) => self.way_end(rest, self.get(name)?),
+            template => self.way_end(rest, template),
+        }
+    }
+
+    /// The record that the version stands in, and `None` where the version path leads to none.
+    fn version_record(&self) -> Option<&Record>
+        ensures { option_map (λ r. record_of r.now) result ≡ record_only (version_record self.now) }
+    {
+        match self.get(self.root()) {
+            Some(body) => self.way_end(self.version_path().names(), body),
+            None => None,
+        }
+    }
+
+    /// Whether the version path leads to no record.
+    fn has_no_version_record(&self) -> bool
+        ensures { result ≡ has_flaw flaws.version_path self.now }
+    {
+        self.version_record().is_none()
+    }
+
+    /// Whether the record that the version path leads to has the path's last name.
     fn uses_version_name(&self) -> bool
         ensures { result ≡ has_flaw flaws.version_name_used self.now }
     {
-        match self.get(self.root()) {
-            Some(body) => uses_name(body, self.version().bytes()),
+        match self.version_record() {
+            Some(record) => uses_name(record, self.version_path().last().bytes()),
             None => false,
         }
     }
@@ -269,6 +314,9 @@ impl Parts {
         }
         if self.has_no_record() {
             return Some(SchemaFault::RootNotRecord);
+        }
+        if self.has_no_version_record() {
+            return Some(SchemaFault::VersionPath);
         }
         if self.uses_version_name() {
             return Some(SchemaFault::VersionNameUsed);

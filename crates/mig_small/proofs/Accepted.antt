@@ -20,7 +20,7 @@ module _ (form : Form) (version root : List ℕ) (e : SmallEdits) (before after 
   lifted_target = target_is e root before ∙ ap (option_map open_record) lifts
 
   after_fix : after_rule (rule_in e) (family_of form version root before) ≡ family_of form version root after
-  after_fix = λ i. record { form = form; version = version; types = (root, unwrap_or (lifted_target i) (open_record before)) ∷ []; root = root }
+  after_fix = λ i. record { form = form; version = version ∷ []; types = (root, unwrap_or (lifted_target i) (open_record before)) ∷ []; root = root }
 
   some_fits : IsTrue (fits_some (rule_in e) (family_of form version root before))
   some_fits = ap (λ (o : Option Template). is_some o || false) lifted_target
@@ -90,7 +90,7 @@ steps_of form version first second number named root again root_again e before a
     schema first (Some (named_family form version named root before)) ∷ fix number (rule_in e) ∷ schema second (Some (named_family form version again root_again after)) ∷ []
 
 abbrev chain_with : Form → List ℕ → Option ℕ → List ChainStep → Chain
-chain_with form version missing steps = record { form = form; version = version; missing = missing; steps = steps }
+chain_with form version missing steps = record { form = form; version = version ∷ []; missing = missing; steps = steps }
 
 pub shaped : (form : Form) (version : List ℕ) (missing : Option ℕ) (first second number : ℕ) (named root again root_again : List ℕ) (e : SmallEdits) (before after : List LeafField)
     → IsAccepted (chain_with form version missing (steps_of form version first second number named root again root_again e before after)) → Shaped form version first second number named root again root_again e before after

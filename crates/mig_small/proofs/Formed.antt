@@ -122,7 +122,7 @@ pub only_itself : (x y : List ℕ) → same_name x y ≡ true → x ≡ y
 only_itself x y h = exact_bytes x y (only_equal (by_bytes x y) h)
 
 abbrev pub named_family : Form → List ℕ → List ℕ → List ℕ → List LeafField → Family
-named_family form version named root gs = record { form = form; version = version; types = (named, open_record gs) ∷ []; root = root }
+named_family form version named root gs = record { form = form; version = version ∷ []; types = (named, open_record gs) ∷ []; root = root }
 
 chosen : (b : Bool) (V : Template) → is_some (if b then Some V else None) ≡ true → b ≡ true
 chosen true V e = refl
@@ -159,7 +159,7 @@ module _ (form : Form) (version root : List ℕ) (gs : List LeafField) where
       let overlap = none_in (sides_overlap form) (λ k. refl) gs in
       let mixed = none_in (is_mixed (family_of form version root gs)) (λ k. refl) gs in
       none_first flaws (family_of form version root gs)
-      (refl, (refl, (rw deep refl, (rw wrong refl, (rw (unknown, same_itself root) refl, (rw side refl, (rw overlap refl, (by form mixed, (ap (λ V. not (is_record V)) root_body, (used_is ∙ ap (λ b. b || false) free, tt))))))))))
+      (refl, (refl, (rw deep refl, (rw wrong refl, (rw (unknown, same_itself root) refl, (rw side refl, (rw overlap refl, (by form mixed, (ap (λ V. not (is_record V)) root_body, (ap (λ V. not (is_record V)) root_body, (used_is ∙ ap (λ b. b || false) free, tt)))))))))))
     where
       by : (f : Form) → any_in_fields (is_mixed (family_of form version root gs)) (leaf_fields gs) ≡ false → (is_nbt f && any_type (any_inside (is_mixed (family_of form version root gs))) (family_of form version root gs)) ≡ false
       by F.Nbt h = rw h refl
@@ -168,5 +168,5 @@ module _ (form : Form) (version root : List ℕ) (gs : List LeafField) where
   pub if_formed : IsFormed (family_of form version root gs) → AllByRecursion (FitsForm form) gs × (has_field version gs ≡ false)
   if_formed h =
       let wrong = no_flaw flaws family.wrong_kind (family_of form version root gs) (inr (inr (inr (inl refl)))) h in
-      let used = no_flaw flaws family.version_name_used (family_of form version root gs) (inr (inr (inr (inr (inr (inr (inr (inr (inr (inl refl)))))))))) h in
+      let used = no_flaw flaws family.version_name_used (family_of form version root gs) (inr (inr (inr (inr (inr (inr (inr (inr (inr (inr (inl refl))))))))))) h in
       (all_right form gs (or_false _ (or_false _ wrong)), or_false (has_field version gs) (sym used_is ∙ used))

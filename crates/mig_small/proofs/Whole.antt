@@ -76,6 +76,7 @@ whole text rest p s short cuts blank n =
       blank = blank;
       each = (n.form, (n.version.1, (n.before.head.1, (b.1, (n.before.root, (f.2, (n.after.head.1, (a.1, (n.after.root, tt)))))))));
       spells = record {
+        version = s.version;
         missing = n.version.0;
         first = s.first;
         second = s.second;
@@ -95,6 +96,7 @@ whole text rest p s short cuts blank n =
         meant = s.constant;
         nine = ap (λ rs. decl.form s.form ∷ decl.version s.version n.version.0 ∷ decl.schema (pos s.first) false ∷ decl.named s.root (template.record_of (fields_of b.0) template.no_choice true) ∷ decl.root s.root
             ∷ decl.fix (pos s.second) (decl.rule (rule.seq (rules_of rs))) ∷ decl.schema (pos s.second) false ∷ decl.named s.root (template.record_of (fields_of a.0) template.no_choice true) ∷ decl.root s.root ∷ []) (e.2 ∙ (λ i. e.3 i ∷ add.1 i ∷ []));
+        path = refl;
         is_missing = n.version.2;
         makes_before = b.2;
         makes_after = a.2;
@@ -145,11 +147,13 @@ told text c t =
     let pieces_are : t.pieces ≡ nine_list p =
     x1.2 ∙ ap (λ l. x1.0 ∷ l) (x2.2 ∙ ap (λ l. x2.0 ∷ l) (x3.2 ∙ ap (λ l. x3.0 ∷ l) (x4.2 ∙ ap (λ l. x4.0 ∷ l) (x5.2 ∙ ap (λ l. x5.0 ∷ l) (x6.2 ∙ ap (λ l. x6.0 ∷ l) (x7.2 ∙ ap (λ l. x7.0 ∷ l) (x8.2 ∙ ap (λ l. x8.0 ∷ l) (x9.2 ∙ ap (λ l. x9.0 ∷ l) end)))))))) in
     let e : SmallEdits = ((sp.old_name, sp.new_name), (sp.added, sp.meant)) in
-    let accepted' = subst (λ steps. IsAccepted (record { form = c.form; version = c.version; missing = c.missing; steps = steps })) sp.steps t.accepted in
-    let h = shaped c.form c.version c.missing sp.first sp.second sp.number sp.named sp.root sp.named_again sp.root_again e sp.before sp.after accepted' in
-    let s : Small = record { form = c.form; version = c.version; missing = c.missing; root = sp.named; first = sp.first; second = sp.second; before = sp.before; old_name = sp.old_name; new_name = sp.new_name; added = sp.added; constant = sp.meant; after = sp.after } in
-    let shape : steps_of c.form c.version sp.first sp.second sp.number sp.named sp.root sp.named_again sp.root_again e sp.before sp.after ≡ (chain_of s).steps =
-    λ i. steps_of c.form c.version sp.first sp.second (h.number_is i) sp.named (h.root_is i) (h.again_is i) (h.root_again_is i) e sp.before sp.after in
+    let with_steps = subst (λ steps. IsAccepted (record { form = c.form; version = c.version; missing = c.missing; steps = steps })) sp.steps t.accepted in
+    let given = steps_of c.form sp.version sp.first sp.second sp.number sp.named sp.root sp.named_again sp.root_again e sp.before sp.after in
+    let accepted' = subst (λ path. IsAccepted (record { form = c.form; version = path; missing = c.missing; steps = given })) sp.path with_steps in
+    let h = shaped c.form sp.version c.missing sp.first sp.second sp.number sp.named sp.root sp.named_again sp.root_again e sp.before sp.after accepted' in
+    let s : Small = record { form = c.form; version = sp.version; missing = c.missing; root = sp.named; first = sp.first; second = sp.second; before = sp.before; old_name = sp.old_name; new_name = sp.new_name; added = sp.added; constant = sp.meant; after = sp.after } in
+    let shape : steps_of c.form sp.version sp.first sp.second sp.number sp.named sp.root sp.named_again sp.root_again e sp.before sp.after ≡ (chain_of s).steps =
+    λ i. steps_of c.form sp.version sp.first sp.second (h.number_is i) sp.named (h.root_is i) (h.again_is i) (h.root_again_is i) e sp.before sp.after in
     let steps_are : c.steps ≡ (chain_of s).steps = sp.steps ∙ shape in
     record {
       p = p;
@@ -158,7 +162,7 @@ told text c t =
       short = t.short;
       cuts = subst (λ ps. Cuts text ps t.rest) pieces_are t.cuts;
       blank = t.blank;
-      is = λ i. record { form = c.form; version = c.version; missing = c.missing; steps = steps_are i };
+      is = λ i. record { form = c.form; version = sp.path i; missing = c.missing; steps = steps_are i };
       nine = record {
         form = x1.3;
         version = (sp.missing, x2.3, sp.is_missing);

@@ -58,7 +58,7 @@ pub record SmallSchema : Type 0 where
   pub fields : List LeafField
 
 abbrev pub family_of : Form → List ℕ → List ℕ → List LeafField → Family
-family_of form version root fields = record { form = form; version = version; types = (root, open_record fields) ∷ []; root = root }
+family_of form version root fields = record { form = form; version = version ∷ []; types = (root, open_record fields) ∷ []; root = root }
 
 pub record IsSchema (form : Form) (version one two three : List ℕ) (s : SmallSchema) : Type 0 where
   pub head : IsHead one s.version

@@ -50,7 +50,7 @@ abbrev pub open_record : List LeafField → Template
 open_record fs = rec (leaf_fields fs) no_choice Open
 
 abbrev pub family_with : Small → List LeafField → Family
-family_with s fs = record { form = s.form; version = s.version; types = (s.root, open_record fs) ∷ []; root = s.root }
+family_with s fs = record { form = s.form; version = s.version ∷ []; types = (s.root, open_record fs) ∷ []; root = s.root }
 
 abbrev pub rule_of : Small → Rule
 rule_of s = seq (function (rename s.old_name s.new_name)) (function (add s.added s.constant))
@@ -59,7 +59,7 @@ rule_of s = seq (function (rename s.old_name s.new_name)) (function (add s.added
 abbrev pub chain_of : Small → Chain
 chain_of s = record {
   form = s.form;
-  version = s.version;
+  version = s.version ∷ [];
   missing = s.missing;
   steps = schema s.first (Some (family_with s s.before)) ∷ fix s.second (rule_of s) ∷ schema s.second (Some (family_with s s.after)) ∷ [];
 }

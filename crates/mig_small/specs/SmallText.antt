@@ -61,6 +61,7 @@ IsMissing _ _ = ⊥
 
 -- the nine declarations, and the chain that they spell
 pub record Spells (ds : List DeclSyntax) (c : Chain) : Type 0 where
+  pub version : List ℕ
   pub missing : Option ℤ
   pub first : ℕ
   pub second : ℕ
@@ -80,19 +81,20 @@ pub record Spells (ds : List DeclSyntax) (c : Chain) : Type 0 where
   pub constant : ConstSyntax
   pub meant : Const
   pub nine : ds
-      ≡ decl.form c.form ∷ decl.version c.version missing
+      ≡ decl.form c.form ∷ decl.version version missing
       ∷ decl.schema (pos first) false ∷ decl.named named (template.record_of (fields_of fields) template.no_choice true) ∷ decl.root root
       ∷ decl.fix (pos number) (decl.rule (rule.seq (rules_of (rule.function None (rule.rename old_name new_name) ∷ rule.function None (rule.add added (rule.const constant)) ∷ []))))
       ∷ decl.schema (pos second) false ∷ decl.named named_again (template.record_of (fields_of fields_again) template.no_choice true) ∷ decl.root root_again ∷ []
+  pub path : c.version ≡ version ∷ []
   pub is_missing : IsMissing missing c.missing
   pub makes_before : MakeRecord c.form fields before
   pub makes_after : MakeRecord c.form fields_again after
   pub means : Means constant meant
   pub in_form : IsTrue (is_of_form c.form (const_kind meant))
   pub steps : c.steps
-      ≡ schema first (Some (record { form = c.form; version = c.version; types = (named, open_record before) ∷ []; root = root }))
+      ≡ schema first (Some (record { form = c.form; version = version ∷ []; types = (named, open_record before) ∷ []; root = root }))
       ∷ fix number (seq (function (rename old_name new_name)) (function (add added meant)))
-      ∷ schema second (Some (record { form = c.form; version = c.version; types = (named_again, open_record after) ∷ []; root = root_again })) ∷ []
+      ∷ schema second (Some (record { form = c.form; version = version ∷ []; types = (named_again, open_record after) ∷ []; root = root_again })) ∷ []
 
 -- each piece is a declaration
 abbrev pub AreDeclarations : List (List ℕ) → List DeclSyntax → Type 0

@@ -1,6 +1,7 @@
 -- Two lists that are seen as one list, item by item.
-use Rattle.std.proofs.Common.{◌≡◌, ℕ, zero, suc, ◌+◌, ◌<◌, ◌||◌, Bool, true, false, List, [], ◌∷◌, ◌++◌, length, map, take, get_or, refl, sym, ap, ◌∙◌, arith}
-use Rattle.std.specs.List.{list_any}
+use Rattle.std.proofs.Common.{◌≡◌, ℕ, zero, suc, ◌+◌, ◌<◌, ◌||◌, Bool, true, false, List, [], ◌∷◌, ◌++◌, length, map, take, get_or, Option, Some, None, Bor, refl, sym, ap, ◌∙◌, arith}
+use Rattle.std.specs.List.{list_any, slice_get}
+use Rattle.std.specs.Option.{option_copied}
 use Rattle.std.proofs.lemmas.List.{take_more}
 
 module _ {X Y : Type 0} (view : X → Y) where
@@ -32,3 +33,8 @@ any_at view p (y ∷ ys) (suc i) x l e h = true_or (p (view y)) (list_any p (map
     true_or : (a b : Bool) → b ≡ true → (a || b) ≡ true
     true_or false b k = k
     true_or true b k = refl
+
+-- a list without a first item is empty
+pub nothing_there : {A : Type 0} (xs : List A) (o : Option (Bor A)) → o ≡ None → option_copied o ≡ slice_get xs 0 → xs ≡ []
+nothing_there [] o none is = refl
+nothing_there (x ∷ xs) o none is = absurd (let e : None ≡ Some x = sym (ap option_copied none) ∙ is in cc)

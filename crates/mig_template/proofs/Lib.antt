@@ -1,5 +1,6 @@
 pub mod Alike
 pub mod CaseLists
+pub mod KeepMore
 pub mod Found
 pub mod Names
 pub mod OneOrder

@@ -98,7 +98,8 @@ choice_once None None None h k = refl
 choice_once (Some g) (Some c) (Some b) h k =
     let tag : c.0 ≡ b.0 = sym h.0 ∙ k.0 in
     let cases : c.1 ≡ b.1 = cases_once g.1 c.1 b.1 h.1 k.1 in
-    λ i. Some (tag i, cases i)
+    let kept : c.2 ≡ b.2 = sym h.2 ∙ k.2 in
+    λ i. Some (tag i, cases i, kept i)
 choice_once None None (Some b) h k = absurd k
 choice_once None (Some c) b h k = absurd h
 choice_once (Some g) None b h k = absurd h

@@ -1,5 +1,9 @@
 -- Fields and cases in the order of their names: none stands twice.
 use Rattle.std.proofs.Common.{◌≡◌, ℕ, List, Bool, true, false, map, refl}
+use Rattle.std.specs.Prelude.{not, ◌==◌}
+use Rattle.std.specs.Ordering.{ordering_index}
+use Rattle.std.specs.declared.cmp.Ordering.{Ordering}
+use Rattle.std.specs.declared.cmp.Ordering.TheVariants.{Less, Equal, Greater}
 use Rattle.std.specs.List.Sorted.{IsSortedByKey}
 use Rattle.std.specs.Map.{keys_of}
 use Rattle.std.proofs.lemmas.Map.Keys.{IsDistinct-from_sorted}
@@ -8,6 +12,12 @@ use Rattle.mig_model.specs.Names.{by_bytes}
 use Rattle.mig_model.proofs.Rising.{ascends_if_distinct}
 use Rattle.mig_model.specs.Ascends.{Ascends}
 use Rattle.mig_template.proofs.Names.{once_if_apart, apart_if_once}
+
+-- an ordering that isn't other than Less is it
+pub is_less : (r : Ordering) → false ≡ not (ordering_index r == 0) → r ≡ Less
+is_less Less e = refl
+is_less Equal e = absurd cc
+is_less Greater e = absurd cc
 
 -- where names ascend, none stands twice
 pub once_if_ascends : {A : Type 0} (es : List (List ℕ × A)) → Ascends es → has_twice (keys_of es) ≡ false

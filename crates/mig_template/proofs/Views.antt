@@ -17,7 +17,7 @@ case_list_of (c ∷ cs) = λ i. (c.0, field_list_of c.1 i) ∷ case_list_of cs i
 
 pub cases_in_of : (c : Option parts.Cases) → cases_in (choice_of c) ≡ c
 cases_in_of None = refl
-cases_in_of (Some c) = ap (λ ds. Some (c.0, ds)) (case_list_of c.1)
+cases_in_of (Some c) = ap (λ ds. Some (c.0, ds, c.2)) (case_list_of c.1)
 
 pub record_kept : (p : RecordParts) → RecordKept p → IsKept (record_of p)
 record_kept p k =

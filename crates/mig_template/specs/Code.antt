@@ -75,7 +75,7 @@ abbrev mutual
 
   pub code_choice : Choice → Gv
   code_choice no_choice = gnil
-  code_choice (choice tag cs) = gcons (coded_name.code tag) (code_cases cs)
+  code_choice (choice tag cs kept) = gcons (coded_name.code tag) (gcons (code_cases cs) (coded_bool.code kept))
 
   pub code_cases : Cases → Gv
   code_cases no_case = gnil
@@ -109,9 +109,10 @@ mutual
 
   pub inj_choice : (x y : Choice) → code_choice x ≡ code_choice y → x ≡ y
   inj_choice no_choice no_choice p = refl
-  inj_choice (choice k cs) (choice l ds) p =
+  inj_choice (choice k cs a) (choice l ds b) p =
       let same_tag : k ≡ l = coded_name.inj k l (ap head p) in
-      let same_cases : cs ≡ ds = inj_cases cs ds (ap tail p) in
+      let same_cases : cs ≡ ds = inj_cases cs ds (ap (λ g. head (tail g)) p) in
+      let same_kept : a ≡ b = coded_bool.inj a b (ap (λ g. tail (tail g)) p) in
       cc
   inj_choice _ _ p = cc
 
@@ -131,7 +132,9 @@ abbrev pub coded_fields : Coded (List Field)
 coded_fields = coded_list (coded× coded_name (coded× coded_presence coded_template))
 
 abbrev pub coded_choice : Coded parts.Cases
-coded_choice = coded× coded_name (coded_list (coded× coded_name coded_fields))
+coded_choice =
+    code_by (List ℕ × (List parts.Case × Bool)) (coded× coded_name (coded× (coded_list (coded× coded_name coded_fields)) coded_bool)) (λ c. (c.0, (c.1, c.2)))
+    (λ t. (t.0, t.1.0, t.1.1)) (λ _. refl)
 
 abbrev pub coded_record : Coded RecordParts
 coded_record =

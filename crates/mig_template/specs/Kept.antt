@@ -19,7 +19,7 @@ abbrev mutual
 
   pub ChoiceKept : Choice → Type 0
   ChoiceKept no_choice = Unit {0}
-  ChoiceKept (choice tag cs) = CasesKept cs
+  ChoiceKept (choice tag cs kept) = CasesKept cs
 
   pub CasesKept : Cases → Type 0
   CasesKept no_case = Unit {0}

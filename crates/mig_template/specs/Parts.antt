@@ -1,6 +1,6 @@
 -- The parts of a record as lists, and what they keep.
 use Rattle.std.specs.Prelude.{◌≡◌, ℕ, List, [], ◌∷◌, ◌++◌, Bool, false, ◌||◌, Option, Some, None, IsPermutation, length, ◌==◌}
-use Rattle.std.specs.List.{AllByRecursion, list_any}
+use Rattle.std.specs.List.{AllByRecursion, list_any, count_by}
 use Rattle.std.specs.Map.{keys_of, lookup}
 use Rattle.std.specs.BTreeMap.{is_at}
 use Rattle.mig_model.specs.declared.presence.Presence.{Presence}
@@ -8,15 +8,15 @@ use Rattle.mig_model.specs.declared.rest.Rest.{Rest}
 use Rattle.mig_model.specs.Ascends.{Ascends}
 use Rattle.mig_model.specs.Names.{by_bytes}
 use Rattle.mig_model.specs.Family.{has_twice}
-use Rattle.mig_model.specs.Template.{Template, rec, Field, fields_of, Choice, no_choice, choice, cases_of, case_list, same_name}
+use Rattle.mig_model.specs.Template.{Template, rec, Field, fields_of, Choice, no_choice, choice, cases_of, case_list, same_name, is_must}
 
 -- a literal, and the fields that a record has where its tag is that literal
 abbrev pub Case : Type 0
 Case = List ℕ × List Field
 
--- the name of the tag, and the cases
+-- the name of the tag, the cases, and whether a tag that is no literal is kept
 abbrev pub Cases : Type 0
-Cases = List ℕ × List Case
+Cases = List ℕ × List Case × Bool
 
 pub record RecordParts : Type 0 where
   pub fields : List Field
@@ -25,14 +25,18 @@ pub record RecordParts : Type 0 where
 
 abbrev pub choice_of : Option Cases → Choice
 choice_of None = no_choice
-choice_of (Some c) = choice c.0 (cases_of c.1)
+choice_of (Some c) = choice c.0 (cases_of c.1) c.2
 
 abbrev pub cases_in : Choice → Option Cases
 cases_in no_choice = None
-cases_in (choice tag cs) = Some (tag, case_list cs)
+cases_in (choice tag cs kept) = Some (tag, case_list cs, kept)
 
 abbrev pub record_of : RecordParts → Template
 record_of p = rec (fields_of p.fields) (choice_of p.choice) p.rest
+
+-- how many of the fields have to be there
+abbrev pub musts_in : List Field → ℕ
+musts_in fs = count_by (λ f. is_must f.1.0) fs
 
 -- the presence and the template of the field of that name
 abbrev pub found_field : List ℕ → List Field → Option (Presence × Template)
@@ -89,7 +93,7 @@ CasesOrdered gs cs = (ds : List Case) × (FieldsOrdered gs ds × IsOrderOf ds cs
 -- the choice given, with its cases in order
 abbrev pub IsChoiceOf : Option Cases → Option Cases → Type 0
 IsChoiceOf None None = Unit {0}
-IsChoiceOf (Some g) (Some c) = (g.0 ≡ c.0) × CasesOrdered g.1 c.1
+IsChoiceOf (Some g) (Some c) = (g.0 ≡ c.0) × CasesOrdered g.1 c.1 × (g.2 ≡ c.2)
 IsChoiceOf g c = ⊥
 
 -- the record with the parts given, each in order

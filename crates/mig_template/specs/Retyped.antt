@@ -17,7 +17,7 @@ cases_with (os ∷ oss) [] = []
 cases_with (os ∷ oss) (c ∷ cs) = (c.0, with_templates os c.1) ∷ cases_with oss cs
 
 abbrev pub choice_with : List (List (Option Template)) → Cases → Cases
-choice_with oss c = (c.0, cases_with oss c.1)
+choice_with oss c = (c.0, cases_with oss c.1, c.2)
 
 -- each field has its place in the lists
 abbrev pub HavePlaces : List (List (Option Template)) → List Case → Type 0

@@ -17,7 +17,7 @@ abbrev mutual
 
   pub choice_size : Choice → ℕ
   choice_size no_choice = 0
-  choice_size (choice tag cs) = suc (cases_size cs)
+  choice_size (choice tag cs kept) = suc (cases_size cs)
 
   pub cases_size : Cases → ℕ
   cases_size no_case = 0

@@ -5,7 +5,7 @@ use Rattle.mig_template.specs.Parts.{record_of}
 use Rattle.mig_template.specs.declared.template.Template.{Template}
 use Rattle.mig_template.specs.declared.template.Template.TheVariants as V
 use Rattle.mig_template.specs.declared.fields.Field.{Field}
-use Rattle.std.specs.Prelude.{ℕ, List, map, Option, Some, None, option_map}
+use Rattle.std.specs.Prelude.{ℕ, List, Bool, map, Option, Some, None, option_map}
 use Rattle.std.proofs.Common.{Vec}
 use Rattle.mig_template.specs.declared.record.Case.{Case}
 
@@ -27,9 +27,9 @@ case_of c = (c.literal, c.fields)
 abbrev pub given_case : {A : Type 0} → List ℕ × Vec Field A → parts.Case
 given_case g = (g.0, map field_of g.1.items)
 
-abbrev pub given_choice : {A : Type 0} → Option (List ℕ × Vec (List ℕ × Vec Field A) A) → Option parts.Cases
+abbrev pub given_choice : {A : Type 0} → Option (List ℕ × Vec (List ℕ × Vec Field A) A × Bool) → Option parts.Cases
 given_choice None = None
-given_choice (Some c) = Some (c.0, map given_case c.1.items)
+given_choice (Some c) = Some (c.0, map given_case c.1.items, c.2)
 
 -- a template for each field, or none
 abbrev pub given_templates : {A : Type 0} → Vec (Option Template) A → List (Option model.Template)

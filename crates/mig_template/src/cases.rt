@@ -92,27 +92,25 @@ fn sort_by_literal(list: &mut Vec<Case>)
     list.sort_unstable_by(|one, other| one.literal.bytes().cmp(other.literal.bytes()));
 }
 
-/// Whether each literal stands before the next.
+/// Whether each literal stands before the next. If so, it also tells what the fields of each case keep.
 fn ascends(list: &[Case]) -> bool
-    ensures { IsTrue result ↔ Ascends (map case_of list.now) }
+    ensures ascend { IsTrue result ↔ Ascends (map case_of list.now) }
+    ensures kept { IsTrue result → CasesKept (cases_of (map case_of list.now)) }
+    ensures within { IsTrue result → AllByRecursion (λ d. Ascends d.1) (map case_of list.now) }
 {
+    let Some(first) = list.first() else {
+        return true;
+    };
+    first.fields.keeps();
     for at in 1..list.len() {
         let before = list[at - 1].literal.bytes();
-        if before.cmp(list[at].literal.bytes()) != Ordering::Less {
+        let case = &list[at];
+        case.fields.keeps();
+        if before.cmp(case.literal.bytes()) != Ordering::Less {
             return false;
         }
     }
     true
-}
-
-/// Tells what the fields of each case keep. It changes nothing.
-fn keep_each(list: &[Case])
-    ensures kept { CasesKept (cases_of (map case_of list.now)) }
-    ensures ascend { AllByRecursion (λ d. Ascends d.1) (map case_of list.now) }
-{
-    for case in list {
-        let _fields = case.fields.as_slice();
-    }
 }
 
 /// The cases in the order of their literals, with their fields in order. `TwiceNamed` comes exactly where a name of a case is there twice or taken, or two literals are equal.
@@ -135,6 +133,5 @@ pub fn order_cases(
         drop(cases);
         return Err(RecordFault::TwiceNamed);
     }
-    keep_each(&cases);
     Ok(cases)
 }

@@ -4,7 +4,7 @@ ghost use Rattle.std.specs.Map.{keys_of};
 ghost use Rattle.std_collections.specs.Layout.BTreeMap.{seek};
 ghost use Rattle.mig_model.specs.Names.{by_bytes};
 ghost use Rattle.mig_model.specs.Ascends.{Ascends};
-ghost use Rattle.mig_template.specs.Parts.{found_field, is_among};
+ghost use Rattle.mig_template.specs.Parts.{found_field, is_among, musts_in};
 ghost use Rattle.mig_template.specs.Kept.{IsKept};
 ghost use Rattle.mig_template.specs.Retyped.{retyped, with_templates};
 ghost use Rattle.mig_template.specs.View.{template_of, field_of};
@@ -27,6 +27,7 @@ pub struct Field {
 #[derive(Debug, Drop)]
 pub struct Fields {
     list: Vec<Field>,
+    musts: usize,
 }
 
 impl Model for Fields {
@@ -42,9 +43,11 @@ impl Model for Fields {
 
     ghost view = { λ a. map field_of a.list.items };
 
+    ghost use Rattle.std.specs.Prelude.{◌≡◌};
+    ghost use Rattle.mig_template.specs.Parts.{musts_in};
     ghost use Rattle.mig_template.specs.Kept.{FieldListKept};
 
-    ghost invariant = { λ a. FieldListKept (map field_of a.list.items) };
+    ghost invariant = { λ a. FieldListKept (map field_of a.list.items) × (a.musts ≡ musts_in (map field_of a.list.items)) };
 
     ghost use Rattle.mig_template.specs.Size.{field_list_size};
 
@@ -54,6 +57,15 @@ impl Model for Fields {
     ghost use Rattle.mig_template.specs.Falls.{most_fields};
 
     ghost size_decreases = { λ a h. omega (arith, most_fields a.list.items) };
+}
+
+/// How many of the fields have to be there.
+fn count_musts(list: &[Field]) -> usize
+    ensures { result ≡ musts_in (map field_of list.now) }
+{
+    list.iter()
+        .filter(|field| field.presence == Presence::Must)
+        .count()
 }
 
 impl Field {
@@ -90,12 +102,20 @@ impl Fields {
     ghost use Rattle.mig_model.specs.Template.{fields_of, fields_have_point};
     ghost use Rattle.mig_template.specs.Kept.{FieldListKept};
 
-    /// These fields, whose names ascend and whose templates keep what a template keeps.
-    pub(crate) fn new(list: Vec<Field>) -> Fields
+    /// These fields, whose names ascend and whose templates keep what a template keeps. It counts those that have to be there.
+    pub fn new(list: Vec<Field>) -> Fields
         requires { FieldListKept (map field_of list.items) }
         ensures { result ≡ map field_of list.items }
     {
-        Fields { list }
+        let musts = count_musts(&list);
+        Fields { list, musts }
+    }
+
+    /// How many of the fields have to be there. It is kept, and counts nothing.
+    pub fn musts(&self) -> usize
+        ensures { result ≡ musts_in self.now }
+    {
+        self.musts
     }
 
     /// The fields, ascending by name.
@@ -107,7 +127,7 @@ impl Fields {
     }
 
     /// Does nothing. Its contract tells what all fields keep.
-    pub(crate) fn keeps(&self)
+    pub fn keeps(&self)
         ensures { FieldListKept self.now }
     {
         let _fields = self.as_slice();
@@ -118,7 +138,7 @@ impl Fields {
         ensures fields { map field_of result.items ≡ self }
         ensures keep { FieldListKept self }
     {
-        let Fields { list } = self;
+        let Fields { list, musts: _ } = self;
         list
     }
 

@@ -12,15 +12,6 @@ ghost use Rattle.mig_template.specs.View.{field_of};
 use crate::{Field, Fields};
 use std::cmp::Ordering;
 
-/// Tells what each template of the list keeps. It changes nothing.
-fn keep_each(list: &[Field])
-    ensures { FieldsKept (fields_of (map field_of list.now)) }
-{
-    for field in list {
-        field.template.keeps();
-    }
-}
-
 /// Sorts by the bytes of the names, in the list's place.
 fn sort_by_name(list: &mut Vec<Field>)
     ensures permutation { IsPermutation list.old.items list.new.items }
@@ -29,13 +20,20 @@ fn sort_by_name(list: &mut Vec<Field>)
     list.sort_unstable_by(|one, other| one.name.bytes().cmp(other.name.bytes()));
 }
 
-/// Whether each name stands before the next.
+/// Whether each name stands before the next. If so, it also tells what the templates keep.
 fn ascends(list: &[Field]) -> bool
-    ensures { IsTrue result ↔ Ascends (map field_of list.now) }
+    ensures ascend { IsTrue result ↔ Ascends (map field_of list.now) }
+    ensures kept { IsTrue result → FieldsKept (fields_of (map field_of list.now)) }
 {
+    let Some(first) = list.first() else {
+        return true;
+    };
+    first.template.keeps();
     for at in 1..list.len() {
         let before = list[at - 1].name.bytes();
-        if before.cmp(list[at].name.bytes()) != Ordering::Less {
+        let field = &list[at];
+        field.template.keeps();
+        if before.cmp(field.name.bytes()) != Ordering::Less {
             return false;
         }
     }
@@ -54,6 +52,5 @@ pub fn order_fields(mut list: Vec<Field>) -> Option<Fields>
         drop(list);
         return None;
     }
-    keep_each(&list);
     Some(Fields::new(list))
 }

@@ -20,12 +20,13 @@ pub struct Case {
     pub fields: Fields,
 }
 
-/// The name of a tag, and a case for each text that it may be. Contracts see the pair of the name and the cases.
+/// The name of a tag, a case for each of its literals, and whether a tag that is no literal is kept. Contracts see these three.
 #[cycle(template)]
 #[derive(Debug, Drop)]
 pub struct Choice {
     tag: Name,
     cases: Vec<Case>,
+    kept: bool,
 }
 
 /// A record: fields that each of its maps has, a choice between cases by a tag, and whether other names may stand there. Contracts see its parts as lists.
@@ -50,7 +51,7 @@ impl Model for Choice {
     ghost use Rattle.mig_template.specs.Fault.{IsFault};
     ghost use Rattle.mig_template.specs.View.{field_of, case_of, given_choice};
 
-    ghost view = { λ a. (a.tag, map case_of a.cases.items) };
+    ghost view = { λ a. (a.tag, map case_of a.cases.items, a.kept) };
 
     ghost use Rattle.mig_template.specs.Size.{cases_in_size};
 
@@ -115,6 +116,13 @@ impl Choice {
     ghost use Rattle.mig_model.specs.Template.{choice_has_point};
     ghost use Rattle.mig_template.specs.Parts.{choice_of};
 
+    /// The choice of a tag's name and cases in the order of their literals.
+    pub fn new(tag: Name, cases: Vec<Case>, kept: bool) -> Choice
+        ensures { result ≡ (tag, map case_of cases.items, kept) }
+    {
+        Choice { tag, cases, kept }
+    }
+
     /// The name of the tag.
     pub fn tag(&self) -> &Name
         ensures { result.now ≡ self.now.0 }
@@ -129,13 +137,21 @@ impl Choice {
         self.cases.as_slice()
     }
 
-    /// Gives the tag's name and the cases up.
-    pub fn into_parts(self) -> (Name, Vec<Case>)
+    /// Whether a tag that is no literal is kept: then it may be any other text.
+    pub fn kept(&self) -> bool
+        ensures { result ≡ self.now.2 }
+    {
+        self.kept
+    }
+
+    /// Gives the tag's name, the cases, and whether other tags are kept.
+    pub fn into_parts(self) -> (Name, Vec<Case>, bool)
         ensures tag { result.0 ≡ self.0 }
         ensures cases { map case_of result.1.items ≡ self.1 }
+        ensures kept { result.2 ≡ self.2 }
     {
-        let Choice { tag, cases } = self;
-        (tag, cases)
+        let Choice { tag, cases, kept } = self;
+        (tag, cases, kept)
     }
 
     /// Whether a point occurs in a case.
@@ -168,7 +184,11 @@ impl Choice {
             let case = &given[cases.len()];
             cases.push(case.with_templates(alloc, list)?)?;
         }
-        Ok(Choice { tag, cases })
+        Ok(Choice {
+            tag,
+            cases,
+            kept: self.kept(),
+        })
     }
 
     /// An equal choice.
@@ -183,7 +203,11 @@ impl Choice {
             let fields = case.fields.copy(alloc)?;
             cases.push(Case { literal, fields })?;
         }
-        Ok(Choice { tag, cases })
+        Ok(Choice {
+            tag,
+            cases,
+            kept: self.kept(),
+        })
     }
 
     /// Whether the two are equal.
@@ -191,7 +215,7 @@ impl Choice {
     pub fn same(&self, other: &Choice) -> bool
         ensures { IsTrue result ↔ (self.now ≡ other.now) }
     {
-        if self.tag().bytes() != other.tag().bytes() {
+        if self.tag().bytes() != other.tag().bytes() || self.kept() != other.kept() {
             return false;
         }
         let list = self.cases();
@@ -249,11 +273,11 @@ impl Record {
         }
     }
 
-    /// The record of these parts, which may come in any order. The rules are this project's own.
+    /// The record of these parts, which may come in any order; the bool says whether a tag that is no literal is kept. The rules are this project's own.
     pub fn new(
         alloc: Global,
         fields: Vec<Field>,
-        choice: Option<(Name, Vec<(Name, Vec<Field>)>)>,
+        choice: Option<(Name, Vec<(Name, Vec<Field>)>, bool)>,
         rest: Rest,
     ) -> Result<Record, RecordFault>
         ensures made { IfOk result (IsRecordOf (map field_of fields.items) (given_choice choice) rest) }
@@ -264,7 +288,7 @@ impl Record {
         let Some(fields) = order_fields(fields) else {
             return Err(RecordFault::TwiceNamed);
         };
-        let Some((tag, given)) = choice else {
+        let Some((tag, given, kept)) = choice else {
             return Ok(Record {
                 fields,
                 choice: None,
@@ -280,7 +304,7 @@ impl Record {
         }
         Ok(Record {
             fields,
-            choice: Some(Choice { tag, cases }),
+            choice: Some(Choice { tag, cases, kept }),
             rest,
         })
     }
@@ -288,6 +312,18 @@ impl Record {
     ghost use Rattle.mig_model.specs.Template.{has_point};
     ghost use Rattle.mig_template.specs.Parts.{record_of};
     ghost use Rattle.mig_template.specs.Kept.{RecordKept};
+
+    /// The record of parts that are in order already and keep what a record keeps. It sorts nothing.
+    pub fn from_parts(fields: Fields, choice: Option<Choice>, rest: Rest) -> Record
+        requires { RecordKept (record { fields = fields; choice = choice; rest = rest }) }
+        ensures { result ≡ record { fields = fields; choice = choice; rest = rest } }
+    {
+        Record {
+            fields,
+            choice,
+            rest,
+        }
+    }
 
     /// The common fields.
     pub fn fields(&self) -> &Fields

@@ -14,10 +14,10 @@ abbrev pub place_of : List Step → Place
 place_of steps = map step_of steps
 
 -- a slash, and the spelled name or the number
-abbrev pub step_text : Step → List ℕ
-step_text (Named n) = 47 ∷ flat_map spelled_byte n
-step_text (Index i) = 47 ∷ decimal i
+abbrev pub step_text : PlaceStep → List ℕ
+step_text (named n) = 47 ∷ flat_map spelled_byte n
+step_text (index i) = 47 ∷ decimal i
 
-abbrev pub place_text : List Step → List ℕ
+abbrev pub place_text : Place → List ℕ
 place_text [] = 47 ∷ []
 place_text (s ∷ ss) = flat_map step_text (s ∷ ss)

@@ -1,4 +1,4 @@
-ghost use Rattle.std.specs.Prelude.{◌≡◌, [], IfOk, OnOk, OnErr, length, map, option_map};
+ghost use Rattle.std.specs.Prelude.{◌≡◌, [], IfOk, OnOk, OnErr, length, map, option_map, is_some, if◌then◌else◌};
 ghost use Rattle.std.specs.List.Sorted.{IsSearchInRange};
 ghost use Rattle.std_collections.specs.Layout.BTreeMap.{seek};
 ghost use Rattle.mig_model.specs.Names.{by_bytes, IsNamed, with_pair, without, found};
@@ -122,6 +122,22 @@ impl<'a> Entries<'a> {
                 self.list.insert(at, Entry { name, tree })?;
                 let _len = self.list.len();
                 Ok(())
+            }
+        }
+    }
+
+    /// Puts the tree in place of the one that stands under the name, which is answered; where the name isn't there, nothing changes. It takes no memory.
+    pub fn swap(&mut self, name: &[u8], tree: Tree<'a>) -> Option<Tree<'a>>
+        ensures tree { option_map plain_of result ≡ found name.now self.old }
+        ensures rest { self.new ≡ (if is_some (found name.now self.old) then with_pair name.now (plain_of tree.entry) self.old else self.old) }
+    {
+        tree.keeps();
+        let _length = name.len();
+        match Entries::place(self.list.as_slice(), name) {
+            Ok(at) => Some(mem::replace(&mut self.list[at].tree, tree)),
+            Err(_) => {
+                drop(tree);
+                None
             }
         }
     }

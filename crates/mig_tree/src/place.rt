@@ -12,41 +12,44 @@ pub enum Step {
     Index(usize),
 }
 
-/// A way from the root of a tree, which contracts see as the list of its steps.
+/// A way from the root of a tree, which contracts see as a plain place.
 #[derive(Debug, Drop)]
 pub struct Place {
     steps: Vec<Step>,
 }
 
 impl Model for Place {
-    ghost use Rattle.std.specs.Prelude.{List};
-    ghost use Rattle.mig_tree.specs.declared.place.Step.{Step};
+    ghost use Rattle.mig_model.specs.Code.{coded_place};
+    ghost use Rattle.mig_model.specs.Place as model;
+    ghost use Rattle.mig_tree.specs.Place.{place_of};
 
-    ghost Value = { List Step };
+    ghost Value = { model.Place };
 
-    ghost view = { λ a. a.steps.items };
+    ghost coded = { coded_place };
+
+    ghost view = { λ a. place_of a.steps.items };
 }
 
 impl Place {
-    ghost use Rattle.mig_tree.specs.Place.{step_text, place_text};
+    ghost use Rattle.mig_tree.specs.Place.{place_of, place_text};
 
     /// The place with these steps.
     pub fn new(steps: Vec<Step>) -> Place
-        ensures { result ≡ steps.items }
+        ensures { result ≡ place_of steps.items }
     {
         Place { steps }
     }
 
     /// The steps, outermost first.
     pub fn as_slice(&self) -> &[Step]
-        ensures { result.now ≡ self.now }
+        ensures { place_of result.now ≡ self.now }
     {
         self.steps.as_slice()
     }
 
     /// Gives the steps up.
     pub fn into_vec(self) -> Vec<Step>
-        ensures { result.items ≡ self }
+        ensures { place_of result.items ≡ self }
     {
         let Place { steps } = self;
         steps

@@ -1,5 +1,5 @@
 //! The families that the tests read by.
-use mig_schema::{Family, Form, Kind, Name, Template, TemplateBox};
+use mig_schema::{Family, Form, Kind, Name, Template, TemplateBox, VersionPath};
 use mig_template::{Field, Presence, Record, Rest};
 use std::alloc::Global;
 use std::test::Fail;
@@ -54,34 +54,86 @@ fn add(
     Ok(())
 }
 
-/// `{ "pos": whole, choice "id" { "chest" { "items": list text }, "sign" { "line": text } }, .. }`.
-fn block(alloc: Global) -> Result<Template, Fail> {
-    let texts = list_of(alloc, Template::Leaf(Kind::Text))?;
-    let line = one_field(alloc, b"line", Template::Leaf(Kind::Text))?;
-    let mut cases = Vec::new(alloc);
-    cases.push((Name::new(alloc, b"sign")?, line))?;
-    cases.push((
-        Name::new(alloc, b"chest")?,
-        one_field(alloc, b"items", texts)?,
-    ))?;
-    let choice = Some((Name::new(alloc, b"id")?, cases));
-    let fields = one_field(alloc, b"pos", Template::Leaf(Kind::Whole))?;
-    Ok(Template::Rec(Record::new(alloc, fields, choice, Rest::Open)?))
+/// The version path of these names.
+fn path(alloc: Global, names: &[&str]) -> Result<VersionPath, Fail> {
+    let mut list = Vec::new(alloc);
+    for name in names {
+        list.push(Name::new(alloc, name.as_bytes())?)?;
+    }
+    match VersionPath::new(list) {
+        Some(path) => Ok(path),
+        None => Err("no version path")?,
+    }
 }
 
-/// A world of blocks with a choice: `block` and `world = { "blocks": list block, .. }`, with the root `world`.
-pub fn world(alloc: Global) -> Result<Family, Fail> {
+/// The case `"chest" { "items": list text }`.
+fn chest(alloc: Global) -> Result<(Name, Vec<Field>), Fail> {
+    let texts = list_of(alloc, Template::Leaf(Kind::Text))?;
+    let name = Name::new(alloc, b"chest")?;
+    Ok((name, one_field(alloc, b"items", texts)?))
+}
+
+/// The case `"sign" { "line": text }`.
+fn sign(alloc: Global) -> Result<(Name, Vec<Field>), Fail> {
+    let name = Name::new(alloc, b"sign")?;
+    Ok((
+        name,
+        one_field(alloc, b"line", Template::Leaf(Kind::Text))?,
+    ))
+}
+
+/// `block = { "pos": whole, choice "id" { .. } }` with these cases, and `world = { "blocks": list block, .. }`, the root.
+fn world_of(
+    alloc: Global,
+    cases: Vec<(Name, Vec<Field>)>,
+    kept: bool,
+    rest: Rest,
+) -> Result<Family, Fail> {
+    let choice = Some((Name::new(alloc, b"id")?, cases, kept));
+    let fields = one_field(alloc, b"pos", Template::Leaf(Kind::Whole))?;
+    let block = Template::Rec(Record::new(alloc, fields, choice, rest)?);
     let blocks = list_of(alloc, point_to(alloc, b"block")?)?;
     let mut types = Vec::new(alloc);
-    add(alloc, &mut types, b"block", block(alloc)?)?;
+    add(alloc, &mut types, b"block", block)?;
     add(
         alloc,
         &mut types,
         b"world",
         with_field(alloc, b"blocks", blocks)?,
     )?;
-    let version = Name::new(alloc, b"v")?;
+    let version = path(alloc, &["v"])?;
     let root = Name::new(alloc, b"world")?;
+    Ok(Family::new(alloc, Form::Json, version, types, root)?)
+}
+
+/// A world of open blocks that are signs or chests.
+pub fn world(alloc: Global) -> Result<Family, Fail> {
+    let mut cases = Vec::new(alloc);
+    cases.push(sign(alloc)?)?;
+    cases.push(chest(alloc)?)?;
+    world_of(alloc, cases, false, Rest::Open)
+}
+
+/// A world of closed blocks that are chests, and where `kept` says so also others.
+pub fn closed_world(alloc: Global, kept: bool) -> Result<Family, Fail> {
+    let mut cases = Vec::new(alloc);
+    cases.push(chest(alloc)?)?;
+    world_of(alloc, cases, kept, Rest::Closed)
+}
+
+/// `level = { "Data": { "LevelName": text }, .. }`, the root, whose version stands under `Data` and `DataVersion`.
+pub fn level(alloc: Global) -> Result<Family, Fail> {
+    let fields = one_field(alloc, b"LevelName", Template::Leaf(Kind::Text))?;
+    let data = Template::Rec(Record::new(alloc, fields, None, Rest::Closed)?);
+    let mut types = Vec::new(alloc);
+    add(
+        alloc,
+        &mut types,
+        b"level",
+        with_field(alloc, b"Data", data)?,
+    )?;
+    let version = path(alloc, &["Data", "DataVersion"])?;
+    let root = Name::new(alloc, b"level")?;
     Ok(Family::new(alloc, Form::Json, version, types, root)?)
 }
 
@@ -104,7 +156,7 @@ pub fn player(alloc: Global) -> Result<Family, Fail> {
     add_around(alloc, &mut types, b"slot", b"item")?;
     add_around(alloc, &mut types, b"bag", b"slot")?;
     add_around(alloc, &mut types, b"player", b"bag")?;
-    let version = Name::new(alloc, b"DataVersion")?;
+    let version = path(alloc, &["DataVersion"])?;
     let root = Name::new(alloc, b"player")?;
     Ok(Family::new(alloc, Form::Json, version, types, root)?)
 }
@@ -119,7 +171,7 @@ pub fn note(alloc: Global) -> Result<Family, Fail> {
     let note = Record::new(alloc, fields, None, Rest::Closed)?;
     let mut types = Vec::new(alloc);
     add(alloc, &mut types, b"note", Template::Rec(note))?;
-    let version = Name::new(alloc, b"v")?;
+    let version = path(alloc, &["v"])?;
     let root = Name::new(alloc, b"note")?;
     Ok(Family::new(alloc, Form::Json, version, types, root)?)
 }

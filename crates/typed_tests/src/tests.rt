@@ -3,7 +3,7 @@ ghost use Rattle.mig_model.specs.Family.{is_named};
 ghost use Rattle.mig_model.specs.Inhabits.{is_in_form};
 ghost use Rattle.mig_tree.specs.View.{plain_of};
 
-use crate::families::{note, player, world};
+use crate::families::{closed_world, level, note, player, world};
 use mig_codec::ReadFault;
 use mig_schema::{Family, Form};
 use mig_tree::{Steps, Tree};
@@ -49,6 +49,25 @@ fn outcome(alloc: Global, family: &Family, text: &[u8]) -> Result<Vec<u8>, Fail>
     let tree = document.tree(alloc)?;
     match read_alone(alloc, family, tree) {
         Ok(tree) => Ok(mig_json::write(alloc, &tree)?),
+        Err(ReadFault::Unfit(place)) => Ok(place.text(alloc)?),
+        Err(ReadFault::Memory) => Err("out of memory")?,
+    }
+}
+
+/// Where the tree of a text is wrong once the version is taken out of it, and `fits` where it isn't.
+fn outcome_without_version(alloc: Global, family: &Family, text: &[u8]) -> Result<Vec<u8>, Fail> {
+    if family.form() != Form::Json || !family.is_named(family.root()) {
+        return Err("another family")?;
+    }
+    let document = mig_json::parse(alloc, text)?;
+    let mut tree = document.tree(alloc)?;
+    let version = family.version_path().strip(&mut tree);
+    drop(version);
+    match read_alone(alloc, family, tree) {
+        Ok(tree) => {
+            drop(tree);
+            Ok(vec![in alloc; b'f', b'i', b't', b's']?)
+        }
         Err(ReadFault::Unfit(place)) => Ok(place.text(alloc)?),
         Err(ReadFault::Memory) => Err("out of memory")?,
     }
@@ -105,6 +124,7 @@ fn what_fits_is_written_as_it_was(rt: HostRuntime) -> Result<(), Fail> {
         &note(alloc)?,
         &[
             r#"{"line":"a"}"#,
+            r#"{"line":"a","mark":[1,"x"]}"#,
             r#"{"line":["a"],"mark":{"x":[null,1]},"more":{"line":[],"more":{"line":"b"}}}"#,
         ],
     )
@@ -128,6 +148,67 @@ fn a_tag_that_is_no_literal_is_wrong(rt: HostRuntime) -> Result<(), Fail> {
             ),
         ],
     )
+}
+
+#[test]
+fn an_unknown_tag_is_kept_as_it_was(rt: HostRuntime) -> Result<(), Fail> {
+    let alloc = rt.alloc();
+    check_kept(
+        &rt,
+        alloc,
+        &closed_world(alloc, true)?,
+        &[
+            r#"{"blocks":[{"id":"bed","pos":1,"z":true}]}"#,
+            r#"{"blocks":[{"id":"bed","pos":1},{"id":"sign","line":7,"n":3,"pos":2,"q":null}]}"#,
+            r#"{"blocks":[{"id":"chest","items":[],"pos":2}]}"#,
+        ],
+    )
+}
+
+#[test]
+fn a_kept_tag_is_a_text_and_common_fields_stay_wrong(rt: HostRuntime) -> Result<(), Fail> {
+    let alloc = rt.alloc();
+    check(
+        &rt,
+        alloc,
+        &closed_world(alloc, true)?,
+        &[
+            (r#"{"blocks":[{"id":4,"pos":1}]}"#, "/blocks/0/id"),
+            (r#"{"blocks":[{"pos":1}]}"#, "/blocks/0/id"),
+            (r#"{"blocks":[{"id":"bed","z":true}]}"#, "/blocks/0/pos"),
+            (r#"{"blocks":[{"id":"bed","pos":"x"}]}"#, "/blocks/0/pos"),
+            (
+                r#"{"blocks":[{"id":"chest","items":[],"pos":2,"z":true}]}"#,
+                "/blocks/0/z",
+            ),
+        ],
+    )?;
+    check(
+        &rt,
+        alloc,
+        &closed_world(alloc, false)?,
+        &[(
+            r#"{"blocks":[{"id":"bed","pos":1,"z":true}]}"#,
+            "/blocks/0/id",
+        )],
+    )
+}
+
+#[test]
+fn a_version_below_the_root_is_taken_out_first(rt: HostRuntime) -> Result<(), Fail> {
+    let alloc = rt.alloc();
+    let family = level(alloc)?;
+    let save = r#"{"Data":{"DataVersion":100,"LevelName":"w"}}"#;
+    check(&rt, alloc, &family, &[(save, "/Data/DataVersion")])?;
+    for (text, want) in [
+        (save, "fits"),
+        (r#"{"Data":{"DataVersion":100}}"#, "/Data/LevelName"),
+        (r#"{"DataVersion":100}"#, "/Data"),
+    ] {
+        let found = outcome_without_version(alloc, &family, text.as_bytes())?;
+        assert_eq!(rt; found.as_slice(), want.as_bytes());
+    }
+    Ok(())
 }
 
 #[test]

@@ -26,12 +26,12 @@ use Rattle.mig_codec.specs.Parted.{HasTag, IsRowRead, pieces_of, added, below_na
 use Rattle.mig_codec.specs.Row.{common, cased, belongs, missing_in}
 use Rattle.mig_codec.specs.RowView.{row_view, missing_view, earlier, or_first}
 use Rattle.mig_codec.proofs.Belonging.{common_found, cased_found}
-use Rattle.mig_codec.proofs.Forms.{item_form, entry_form}
+use Rattle.mig_codec.proofs.Forms.{list_form, item_form, entry_form}
 use Rattle.mig_codec.proofs.Gathered.{GatheredItems, Gathered}
 use Rattle.mig_codec.proofs.ItemLoop.{one_more_item, item_wrong}
-use Rattle.mig_codec.proofs.Loops.{in_hand, all_behind}
+use Rattle.mig_model.proofs.Loops.{in_hand, all_behind}
 use Rattle.mig_codec.proofs.Measures.{less_work, less_tree, item_within, entry_within, rank_body, rank_side, width}
-use Rattle.mig_codec.proofs.PartsOf.{body_part, left_part, right_part}
+use Rattle.mig_codec.proofs.PartsOf.{list_part, body_part, left_part, right_part}
 use Rattle.mig_codec.proofs.RowEnd.{record_end, row_end}
 use Rattle.mig_codec.proofs.RowLoop.{one_more_pair}
 use Rattle.mig_codec.proofs.ReadOf.{list_stops, list_read, node_stops, node_read, point_read, left_read, right_read, record_read, tag_at, pair_stops}
@@ -92,10 +92,19 @@ read_items-returns-in-Err t c =
     let as_long : c.into_iter-item-iterator.result.rest.len ≡ length all = search rules in
     let here = in_hand c.into_iter-item-iterator.result c.loop-item.item-iterator c.next.new.self all ys x c.into_iter-item-iterator.ensures.into_iter_gives.0 as_long c.loop-item.yielded_by c.next.result c.in-Some.is c.next.ensures.steps in
     let whole : c.args.items ≡ map plain_of ys ++ plain_of x ∷ map plain_of here.0 = sym c.into_vec-item-items.ensures.items ∙ ap (λ (l : List Tree). map plain_of l) here.1 ∙ map_append plain_of ys (x ∷ here.0) in
-    let count : length (map plain_of ys) ≡ c.len.result = omega (arith, c.loop-item.invariant.count, length-map c.loop-item.values.items typed_of, c.len.ensures) in
+    let count : length (map plain_of ys) ≡ c.len-in-Err.result = omega (arith, c.loop-item.invariant.count, length-map c.loop-item.values.items typed_of, c.len-in-Err.ensures) in
     subst (λ ts. StopsAt c.below.result (wrong_item (wrong_part f V) 0 ts)) (sym whole)
-    (stop_passes c.in-Err.stop c.below.result (λ o. option_map (λ p. step_of (S.Index c.len.result) ∷ p) o) refl c.below.ensures (wrong_part f V (plain_of x)) (wrong_item (wrong_part f V) 0 (map plain_of ys ++ plain_of x ∷ map plain_of here.0)) c.in-Err.ensures
-    (λ p e. ap (λ o. option_map (λ q. step_of (S.Index c.len.result) ∷ q) o) e ∙ sym (item_wrong (wrong_part f V) (map plain_of ys) (map plain_of here.0) (plain_of x) c.len.result p c.loop-item.invariant.right count e)))
+    (stop_passes c.in-Err.stop c.below.result (λ o. option_map (λ p. step_of (S.Index c.len-in-Err.result) ∷ p) o) refl c.below.ensures (wrong_part f V (plain_of x)) (wrong_item (wrong_part f V) 0 (map plain_of ys ++ plain_of x ∷ map plain_of here.0)) c.in-Err.ensures
+    (λ p e. ap (λ o. option_map (λ q. step_of (S.Index c.len-in-Err.result) ∷ q) o) e ∙ sym (item_wrong (wrong_part f V) (map plain_of ys) (map plain_of here.0) (plain_of x) c.len-in-Err.result p c.loop-item.invariant.right count e)))
+
+pub read_list-read_items-requires : goal.read_list-read_items-requires
+read_list-read_items-requires t c =
+    let f = c.args.family.now in
+    let V = template_of c.args.part.now in
+    let ts = c.in-List.items in
+    let tree : plain_of c.args.tree ≡ plain.list (trees_of ts) = ap (λ (u : Tree). plain_of u) c.in-List.is in
+    let form : is_in_form f.form (plain.list (trees_of ts)) ≡ true = ap (is_in_form f.form) (sym tree) ∙ c.requires.form in
+    (omega (arith, ap (λ u. size u * width f) tree), (list_part f V c.requires.part, list_form f.form ts form))
 
 pub read_list-returns-in_err-values-in-List : goal.read_list-returns-in_err-values-in-List
 read_list-returns-in_err-values-in-List t c =
@@ -261,7 +270,7 @@ read_row-returns t c =
     let done = all_behind c.into_iter-entry-iterator.result c.loop-entry.entry-iterator c.next.new.self all c.loop-entry.yielded c.into_iter-entry-iterator.ensures.into_iter_gives.0 as_long c.loop-entry.yielded_by c.next.result c.in-None.is c.next.ensures.steps in
     let whole : map entry_of c.loop-entry.yielded ≡ c.args.entries = ap (λ (l : List Entry). map entry_of l) done ∙ c.into_vec-entry-items.ensures.pairs in
     let none : missing_in row c.args.entries ≡ None = sym c.missing-missing.ensures ∙ ap missing_view c.in-None-missing.is in
-    subst (IsRowRead f row c.args.entries) (sym c.into_record.ensures)
+    subst (IsRowRead f row c.args.entries) (sym c.in_ok-parts-in-None-missing.ensures)
     (row_end f row c.args.entries (pieces_of c.loop-entry.pieces) (subst (λ es. Gathered f row es (pieces_of c.loop-entry.pieces)) whole c.loop-entry.invariant) c.into_vec-entry-items.ensures.keep.0 c.requires.row none)
 
 pub read_part-returns-in_ok-new-in-Point : goal.read_part-returns-in_ok-new-in-Point

@@ -1,14 +1,18 @@
-use Rattle.std.proofs.Common.{rules, append_assoc, ◌≡◌, ◌∙◌, ◌++◌, ◌∷◌, [], map, length, sym, subst, ap, arith}
+use Rattle.std.proofs.Common.{rules, append_assoc, ◌≡◌, ◌∙◌, ◌++◌, ◌∷◌, [], List, map, length, sym, subst, ap, arith}
 use Rattle.std.specs.Prelude.{IsPermutation}
 use Rattle.mig_model.specs.Plain as plain
 use Rattle.mig_model.specs.Plain.{Plain, pairs_of, trees_of}
+use Rattle.mig_model.specs.Keeps.{ItemsKeep}
 use Rattle.mig_tree.specs.View.{plain_of, entry_of}
+use Rattle.mig_tree.specs.declared.tree.Tree.{Tree}
+use Rattle.mig_tree.proofs.Kept.{items_pushed}
 use Rattle.mig_template.proofs.Alike.{map_append}
 use Rattle.mig_value.specs.Typed.{out, out_items, out_slots, items_of, slots_of}
 use Rattle.mig_value.specs.View.{typed_of, slot_of}
 use Rattle.mig_value.proofs.Orders.{in_order_named}
-use Rattle.mig_codec.specs.Nodes.{pairs_in}
-use Rattle.mig_codec.proofs.Loops.{in_hand, item_smaller, slot_smaller, item_counted, slot_counted, item_more, slot_more, items_count, slots_count}
+use Rattle.mig_codec.specs.Lists.{pairs_in}
+use Rattle.mig_model.proofs.Loops.{in_hand}
+use Rattle.mig_codec.proofs.Loops.{item_smaller, slot_smaller, item_counted, slot_counted, item_more, slot_more, items_count, slots_count}
 use Rattle.mig_codec.proofs.Pairs.{has_order}
 use Rattle.mig_codec.proofs.writing.+write.Goals as goal
 
@@ -28,10 +32,13 @@ pub write_items-loop-value-preserved : goal.write_items-loop-value-preserved
 write_items-loop-value-preserved g t c =
     let ys = c.loop-value.yielded in
     let v = c.in-Some.value in
+    let before = c.loop-value.list.items in
+    let pushed = c.in_ok-push.ensures.items in
     let seen : map typed_of (ys ++ v ∷ []) ≡ map typed_of ys ++ typed_of v ∷ [] = map_append typed_of ys (v ∷ []) in
-    let made : c.push.new.self ≡ c.loop-value.items ++ plain_of c.in_ok-tree.tree ∷ [] = c.in_ok-push.ensures.ok in (
-      ap trees_of made ∙ item_more c.loop-value.items (map typed_of ys) (plain_of c.in_ok-tree.tree) (typed_of v) c.loop-value.invariant.0 c.in_ok-tree.ensures.tree ∙ ap (λ l. out_items (items_of l)) (sym seen),
+    let made : map plain_of c.push.new.self.items ≡ map plain_of before ++ plain_of c.in_ok-tree.tree ∷ [] = ap (λ (l : List Tree). map plain_of l) pushed ∙ map_append plain_of before (c.in_ok-tree.tree ∷ []) in (
+      ap trees_of made ∙ item_more (map plain_of before) (map typed_of ys) (plain_of c.in_ok-tree.tree) (typed_of v) c.loop-value.invariant.0 c.in_ok-tree.ensures.tree ∙ ap (λ l. out_items (items_of l)) (sym seen),
       omega (arith, items_count ys [] v, c.loop-value.invariant.1, c.in_ok-tree.ensures.exact),
+      subst (λ (l : List Tree). ItemsKeep (map plain_of l)) (sym pushed) (items_pushed before c.in_ok-tree.tree c.loop-value.invariant.2 c.keeps.ensures (omega (arith, ap length pushed))),
     )
 
 pub write_items-returns-in_err-push-clause-count : goal.write_items-returns-in_err-push-clause-count

@@ -20,14 +20,14 @@ returns-then-not-ascends-clause-twice c =
     let moved : IsPermutation ds (map case_of after) = IsPermutation-map case_of c.in_ok-cases.cases.items after c.sort_by_literal.ensures.permutation in
     keys_twice others given ds (map case_of after) c.in_ok-cases.ensures.ordered moved
     (twice_if_not case_of after c.sort_by_literal.ensures.sorted
-    (λ rises. let told : IsTrue c.ascends.result = c.ascends.ensures.1 (subst (λ (l : List Case). Ascends (map case_of l)) (sym c.deref.ensures.value) rises) in absurd cc))
+    (λ rises. let told : IsTrue c.ascends.result = c.ascends.ensures.ascend.1 (subst (λ (l : List Case). Ascends (map case_of l)) (sym c.deref.ensures.value) rises) in absurd cc))
 
 pub returns-clause-ordered : goal.returns-clause-ordered
 returns-clause-ordered c =
     let ds : List parts.Case = map case_of c.in_ok-cases.cases.items in
     let after = c.sort_by_literal.new.list.items in
     let told : IsTrue c.ascends.result = search rules in
-    let rises : Ascends (map case_of after) = subst (λ (l : List Case). Ascends (map case_of l)) c.deref.ensures.value (c.ascends.ensures.0 told) in
+    let rises : Ascends (map case_of after) = subst (λ (l : List Case). Ascends (map case_of l)) c.deref.ensures.value (c.ascends.ensures.ascend.0 told) in
     (ds, (c.in_ok-cases.ensures.ordered, record { same = IsPermutation-map case_of c.in_ok-cases.cases.items after c.sort_by_literal.ensures.permutation; ascend = rises }))
 
 pub returns-clause-once : goal.returns-clause-once
@@ -37,6 +37,6 @@ returns-clause-once c =
     let ds : List parts.Case = map case_of c.in_ok-cases.cases.items in
     let after = c.sort_by_literal.new.list.items in
     let told : IsTrue c.ascends.result = search rules in
-    let rises : Ascends (map case_of after) = subst (λ (l : List Case). Ascends (map case_of l)) c.deref.ensures.value (c.ascends.ensures.0 told) in
+    let rises : Ascends (map case_of after) = subst (λ (l : List Case). Ascends (map case_of l)) c.deref.ensures.value (c.ascends.ensures.ascend.0 told) in
     let moved : IsPermutation ds (map case_of after) = IsPermutation-map case_of c.in_ok-cases.cases.items after c.sort_by_literal.ensures.permutation in
     keys_once others given ds (map case_of after) c.in_ok-cases.ensures.ordered moved c.in_ok-cases.ensures.once (once_if_ascends (map case_of after) rises)

@@ -1,13 +1,25 @@
-use Rattle.std.proofs.Common.{◌≡◌, ◌∙◌, ◌<◌, length, refl, sym, ap, arith}
+use Rattle.std.proofs.Common.{◌≡◌, ◌∙◌, ◌<◌, ◌+◌, ◌-◌, ◌++◌, ◌∷◌, [], length, map, take, refl, sym, ap, subst, arith}
 use Rattle.std.specs.declared.cmp.Ordering.TheVariants.{Less}
+use Rattle.std.proofs.lemmas.List.Sorted.{all_adjacent_more}
 use Rattle.mig_model.specs.Names.{by_bytes}
-use Rattle.mig_template.specs.View.{field_of}
+use Rattle.mig_model.proofs.Rising.{Rises, rises_at, ascends_if_rising, not_other}
 use Rattle.mig_model.proofs.Searches.{same_read}
-use Rattle.mig_model.proofs.Rising.{rises_at, ascends_if_rising, not_other}
+use Rattle.mig_model.specs.Template.{fields_of}
+use Rattle.mig_template.specs.Kept.{FieldsKept}
+use Rattle.mig_template.specs.View.{field_of}
+use Rattle.mig_template.proofs.KeepMore.{field_keeps_more}
+use Rattle.mig_template.specs.declared.fields.Field.{Field}
+use Rattle.mig_template.proofs.Alike.{one_more, nothing_there}
+use Rattle.mig_template.proofs.Sorted.{is_less}
 use Rattle.mig_template.proofs.ordering.ascends.Goals as goal
 
-pub returns-then-ne : goal.returns-then-ne
-returns-then-ne c =
+pub returns-in_default-clause-ascend : goal.returns-in_default-clause-ascend
+returns-in_default-clause-ascend c =
+    let xs = c.args.list.now in
+    (λ _. ascends_if_rising field_of xs (λ k d l. absurd (omega (arith, ap length (nothing_there xs c.first.result c.in_default.is c.first.ensures.value)))), λ _. refl)
+
+pub returns-then-ne-clause-ascend : goal.returns-then-ne-clause-ascend
+returns-then-ne-clause-ascend c =
     let xs = c.args.list.now in
     let at = c.loop-at.at in
     let one = c.index-list-at.result in
@@ -17,12 +29,25 @@ returns-then-ne c =
       λ named.
           let less : c.cmp.result ≡ Less =
           c.cmp.ensures
-          ∙ (λ t. by_bytes (c.bytes-before.ensures t) ((c.bytes.ensures ∙ ap (λ e. e.name) (same_read xs at other other inside c.index-list-at-in-loop-at.is ∙ sym (same_read xs at one other inside c.index-list-at-in-loop-at.is))) t))
+          ∙ (λ t. by_bytes (c.bytes-before.ensures t) ((c.bytes.ensures ∙ ap (λ e. e.name) (sym (same_read xs at one other inside c.index-list-at-in-loop-at.is))) t))
           ∙ rises_at field_of xs at one named (omega arith) inside in
           absurd (not_other c.cmp.result less (sym c.if-ne.true ∙ c.ne.ensures)),
     )
 
-pub returns : goal.returns
-returns c =
+pub loop-at-preserved : goal.loop-at-preserved
+loop-at-preserved c =
     let xs = c.args.list.now in
-    (λ _. ascends_if_rising field_of xs (λ k d l. c.loop-at.invariant k d (omega arith)), λ _. refl)
+    let at = c.loop-at.at in
+    let item = c.index-list-at-in-loop-at.result in
+    let rises : Rises field_of xs at = c.loop-at.invariant.0 in
+    let more : map field_of (take (at + 1) xs) ≡ map field_of (take at xs) ++ field_of item ∷ [] = one_more field_of xs at item c.loop-at-test.true c.index-list-at-in-loop-at.is in
+    let one = c.index-list-at.result in
+    let less : by_bytes one.name item.name ≡ Less =
+    (λ t. by_bytes ((ap (λ e. e.name) c.index-list-at.is ∙ sym c.bytes-before.ensures) t) (sym c.bytes.ensures t)) ∙ sym c.cmp.ensures ∙ is_less c.cmp.result (sym c.if-ne.false ∙ c.ne.ensures) in
+    let here = λ (d : Field). (λ t. by_bytes (same_read xs (at - 1) d one (omega arith) c.index-list-at.is t).name (same_read xs at d item (omega arith) c.index-list-at-in-loop-at.is t).name) ∙ less in
+    (all_adjacent_more xs (λ x y. by_bytes x.name y.name ≡ Less) at (omega arith) rises here, subst (λ l. FieldsKept (fields_of l)) (sym more) (field_keeps_more (map field_of (take at xs)) (field_of item) c.loop-at.invariant.1 c.keeps-in-loop-at.ensures))
+
+pub returns-clause-ascend : goal.returns-clause-ascend
+returns-clause-ascend c =
+    let xs = c.args.list.now in
+    (λ _. ascends_if_rising field_of xs (λ k d l. c.loop-at.invariant.0 k d (omega arith)), λ _. refl)

@@ -16,14 +16,14 @@ returns-then-not-ascends-clause-twice c =
     let moved : IsPermutation (map field_of before) (map field_of after) = IsPermutation-map field_of before after c.sort_by_name.ensures.permutation in
     keys_moved (map field_of before) (map field_of after) moved
     ∙ twice_if_not field_of after c.sort_by_name.ensures.sorted
-    (λ rises. let told : IsTrue c.ascends.result = c.ascends.ensures.1 (subst (λ (l : List Field). Ascends (map field_of l)) (sym c.deref.ensures.value) rises) in absurd cc)
+    (λ rises. let told : IsTrue c.ascends.result = c.ascends.ensures.ascend.1 (subst (λ (l : List Field). Ascends (map field_of l)) (sym c.deref.ensures.value) rises) in absurd cc)
 
 pub returns-clause-found : goal.returns-clause-found
 returns-clause-found c =
     let before = c.args.list.items in
     let after = c.sort_by_name.new.list.items in
     let told : IsTrue c.ascends.result = search rules in
-    let rises : Ascends (map field_of after) = subst (λ (l : List Field). Ascends (map field_of l)) c.deref.ensures.value (c.ascends.ensures.0 told) in
+    let rises : Ascends (map field_of after) = subst (λ (l : List Field). Ascends (map field_of l)) c.deref.ensures.value (c.ascends.ensures.ascend.0 told) in
     subst (IsOrderOf (map field_of before)) (sym c.new.ensures) (record { same = IsPermutation-map field_of before after c.sort_by_name.ensures.permutation; ascend = rises })
 
 pub returns-clause-once : goal.returns-clause-once
@@ -31,5 +31,5 @@ returns-clause-once c =
     let before = c.args.list.items in
     let after = c.sort_by_name.new.list.items in
     let told : IsTrue c.ascends.result = search rules in
-    let rises : Ascends (map field_of after) = subst (λ (l : List Field). Ascends (map field_of l)) c.deref.ensures.value (c.ascends.ensures.0 told) in
+    let rises : Ascends (map field_of after) = subst (λ (l : List Field). Ascends (map field_of l)) c.deref.ensures.value (c.ascends.ensures.ascend.0 told) in
     keys_moved (map field_of before) (map field_of after) (IsPermutation-map field_of before after c.sort_by_name.ensures.permutation) ∙ once_if_ascends (map field_of after) rises

@@ -20,7 +20,7 @@ pub returns-in-Err-clause-found : goal.returns-in-Err-clause-found
 returns-in-Err-clause-found c =
     let xs = c.self.inside.list.items in
     let at : seek (by_bytes c.args.name.now) (map field_of xs) ≡ Err c.in-Err.field-0 = grind arith in
-    sym (not_found nat_list_cmp_total field_of c.args.name.now xs c.in-Err.field-0 c.self.invariant.0 at) ∙ ap (found_field c.args.name.now) c.self.view_is
+    sym (not_found nat_list_cmp_total field_of c.args.name.now xs c.in-Err.field-0 c.self.invariant.0.0 at) ∙ ap (found_field c.args.name.now) c.self.view_is
 
 pub returns-in-Ok-clause-name : goal.returns-in-Ok-clause-name
 returns-in-Ok-clause-name c =

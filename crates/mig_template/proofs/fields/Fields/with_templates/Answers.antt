@@ -1,15 +1,15 @@
-use Rattle.std.proofs.Common.{◌≡◌, ◌∙◌, ◌<◌, ◌++◌, ◌∷◌, List, [], length, map, get_or, refl, sym, ap, subst, rules, arith, ◌*◌, w64, Fits}
-use Rattle.std.specs.Prelude.{Option, option_map}
+use Rattle.std.proofs.Common.{◌≡◌, ◌∙◌, ◌<◌, ◌++◌, ◌∷◌, List, [], length, map, get_or, sym, ap, subst, rules, arith}
+use Rattle.std.specs.Prelude.{option_map}
 use Rattle.mig_model.specs.Ascends.{Ascends}
 use Rattle.mig_model.proofs.Loops.{in_hand, all_behind, fewer}
 use Rattle.std.proofs.lemmas.List.{length-map, length-append}
 use Rattle.mig_model.specs.Template.{fields_of}
 use Rattle.mig_template.specs.Kept.{FieldsKept}
 use Rattle.mig_template.specs.declared.fields.Field.{Field}
-use Rattle.mig_template.specs.Retyped.{retyped, with_templates}
+use Rattle.mig_template.specs.Retyped.{with_templates}
 use Rattle.mig_template.specs.View.{template_of, field_of}
 use Rattle.mig_template.proofs.Alike.{map_append}
-use Rattle.mig_template.proofs.Retyped.{with_more, keys_stay, ascend_still, kept_more}
+use Rattle.mig_template.proofs.Retyped.{with_more, ascend_still, kept_more}
 use Rattle.mig_template.proofs.fields.Fields.with_templates.Goals as goal
 
 pub loop-template-init : goal.loop-template-init
@@ -43,10 +43,10 @@ loop-template-preserved c =
     let is : field ≡ get_or fs (length os) field = c.index-fields-len.is ∙ ap (λ n. get_or fs n field) (sym at) in (
       omega (arith, ap length c.in_ok-push.ensures.items, c.loop-template.invariant.0, length-append list (made ∷ []), length-append ys (c.in-Some.template ∷ [])),
       ap (map field_of) c.in_ok-push.ensures.items
-      ∙ map_append field_of list (made ∷ [])
-      ∙ (λ i. c.loop-template.invariant.1 i ++ c.in_ok-with_template.ensures.field i ∷ [])
-      ∙ sym (with_more os o fs field inside is)
-      ∙ ap (λ l. with_templates l (map field_of fs)) (sym (map_append (option_map template_of) ys (c.in-Some.template ∷ []))),
+          ∙ map_append field_of list (made ∷ [])
+          ∙ (λ i. c.loop-template.invariant.1 i ++ c.in_ok-with_template.ensures.field i ∷ [])
+          ∙ sym (with_more os o fs field inside is)
+          ∙ ap (λ l. with_templates l (map field_of fs)) (sym (map_append (option_map template_of) ys (c.in-Some.template ∷ []))),
       subst (λ (l : List Field). FieldsKept (fields_of (map field_of l))) (sym c.in_ok-push.ensures.items) (kept_more list made c.loop-template.invariant.2 c.in_ok-with_template.ensures.keep),
     )
 

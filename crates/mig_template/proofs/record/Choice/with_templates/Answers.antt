@@ -1,12 +1,11 @@
-use Rattle.std.proofs.Common.{◌≡◌, ◌∙◌, ◌<◌, ◌++◌, ◌∷◌, List, [], length, map, get_or, refl, sym, ap, subst, rules, arith}
+use Rattle.std.proofs.Common.{◌≡◌, ◌∙◌, ◌++◌, ◌∷◌, List, [], length, map, get_or, sym, ap, subst, rules, arith}
 use Rattle.std.specs.Prelude.{option_map}
 use Rattle.std.proofs.lemmas.List.{length-map, length-append}
 use Rattle.mig_model.proofs.Loops.{in_hand, all_behind}
-use Rattle.mig_model.specs.Template as model
 use Rattle.mig_model.specs.Template.{cases_of}
 use Rattle.mig_template.specs.Kept.{CasesKept}
 use Rattle.mig_template.specs.declared.record.Case.{Case}
-use Rattle.mig_template.specs.Retyped.{with_templates, cases_with, HavePlaces}
+use Rattle.mig_template.specs.Retyped.{cases_with}
 use Rattle.mig_template.specs.View.{template_of, case_of, given_templates}
 use Rattle.mig_template.proofs.Alike.{map_append}
 use Rattle.mig_template.proofs.Retyped.{place_here, as_many_here, cases_more, given_split, cases_kept_more}
@@ -55,10 +54,10 @@ loop-list-preserved c =
     let is = c.index-given-len.is ∙ ap (λ n. get_or given n case) (sym at) in (
       omega (arith, ap length c.in_ok-push.ensures.items, c.loop-list.invariant.0, length-append c.loop-list.cases.items (made ∷ []), length-append ys (c.in-Some.list ∷ [])),
       ap (map case_of) c.in_ok-push.ensures.items
-      ∙ map_append case_of c.loop-list.cases.items (made ∷ [])
-      ∙ (λ i. c.loop-list.invariant.1 i ++ c.in_ok-with_templates.ensures.case i ∷ [])
-      ∙ sym (cases_more (map given_templates ys) (given_templates c.in-Some.list) given case inside is)
-      ∙ ap (λ l. cases_with l (map case_of given)) (sym (map_append given_templates ys (c.in-Some.list ∷ []))),
+          ∙ map_append case_of c.loop-list.cases.items (made ∷ [])
+          ∙ (λ i. c.loop-list.invariant.1 i ++ c.in_ok-with_templates.ensures.case i ∷ [])
+          ∙ sym (cases_more (map given_templates ys) (given_templates c.in-Some.list) given case inside is)
+          ∙ ap (λ l. cases_with l (map case_of given)) (sym (map_append given_templates ys (c.in-Some.list ∷ []))),
       subst (λ (l : List Case). CasesKept (cases_of (map case_of l))) (sym c.in_ok-push.ensures.items) (cases_kept_more c.loop-list.cases.items made c.loop-list.invariant.2 c.in_ok-with_templates.ensures.keep.1),
     )
 
@@ -68,7 +67,7 @@ returns-clause-choice c =
     let ys = c.loop-list.yielded in
     let as_long : c.into_iter-list-iterator.result.rest.len ≡ length all = search rules in
     let done = all_behind c.into_iter-list-iterator.result c.loop-list.list-iterator c.next.new.self all ys c.into_iter-list-iterator.ensures.into_iter_gives.0 as_long c.loop-list.yielded_by c.next.result c.in-None.is c.next.ensures.steps in
-    (λ i. ((c.in_ok-tag.ensures ∙ c.tag.ensures) i, (c.loop-list.invariant.1 ∙ (λ j. cases_with (map given_templates (done j)) (c.cases-given.ensures j))) i))
+    (λ i. ((c.in_ok-tag.ensures ∙ c.tag.ensures) i, (c.loop-list.invariant.1 ∙ (λ j. cases_with (map given_templates (done j)) (c.cases-given.ensures j))) i, c.kept.ensures i))
 
 pub returns-clause-keep : goal.returns-clause-keep
 returns-clause-keep c = c.loop-list.invariant.2

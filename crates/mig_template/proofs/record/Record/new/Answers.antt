@@ -22,10 +22,11 @@ returns-then-has-clause-fault c =
     let fs : List Field = map field_of c.args.fields.items in
     let hs : List Field = c.in-Some.fields in
     let tag = c.in-Some-choice.tag in
+    let kept = c.in-Some-choice.kept in
     let gs : List parts.Case = map given_case c.in-Some-choice.given.items in
-    let is : given_choice c.args.choice ≡ Some (tag, gs) = search rules in
-    let moved : is_twice_named fs (given_choice c.args.choice) ≡ is_twice_named hs (Some (tag, gs)) = ap (is_twice_named fs) is ∙ named_moved fs hs c.in-Some.ensures.found.same (Some (tag, gs)) in
-    moved ∙ tag_twice hs (tag, gs) (ap (is_among (keys_of hs)) (sym c.bytes.ensures) ∙ sym c.has.ensures ∙ c.if-has.true)
+    let is : given_choice c.args.choice ≡ Some (tag, gs, kept) = search rules in
+    let moved : is_twice_named fs (given_choice c.args.choice) ≡ is_twice_named hs (Some (tag, gs, kept)) = ap (is_twice_named fs) is ∙ named_moved fs hs c.in-Some.ensures.found.same (Some (tag, gs, kept)) in
+    moved ∙ tag_twice hs (tag, gs, kept) (ap (is_among (keys_of hs)) (sym c.bytes.ensures) ∙ sym c.has.ensures ∙ c.if-has.true)
 
 pub order_cases-requires : goal.order_cases-requires
 order_cases-requires c =
@@ -41,12 +42,13 @@ returns-in_err-cases-clause-fault c =
     let fs : List Field = map field_of c.args.fields.items in
     let hs : List Field = c.in-Some.fields in
     let tag = c.in-Some-choice.tag in
+    let kept = c.in-Some-choice.kept in
     let gs : List parts.Case = map given_case c.in-Some-choice.given.items in
-    let is : given_choice c.args.choice ≡ Some (tag, gs) = search rules in
-    let moved : is_twice_named fs (given_choice c.args.choice) ≡ is_twice_named hs (Some (tag, gs)) = ap (is_twice_named fs) is ∙ named_moved fs hs c.in-Some.ensures.found.same (Some (tag, gs)) in
+    let is : given_choice c.args.choice ≡ Some (tag, gs, kept) = search rules in
+    let moved : is_twice_named fs (given_choice c.args.choice) ≡ is_twice_named hs (Some (tag, gs, kept)) = ap (is_twice_named fs) is ∙ named_moved fs hs c.in-Some.ensures.found.same (Some (tag, gs, kept)) in
     let e = c.in_err-cases.field-0.0 in
     let others = tag ∷ keys_of hs in
-    let more : IsFault e (is_twice_named hs (Some (tag, gs))) (has_no_case (given_choice c.args.choice)) = fault_more e (has_twice others) (is_twice_in others gs) (has_no_case (given_choice c.args.choice)) c.in_err-cases.ensures.twice in
+    let more : IsFault e (is_twice_named hs (Some (tag, gs, kept))) (has_no_case (given_choice c.args.choice)) = fault_more e (has_twice others) (is_twice_in others gs) (has_no_case (given_choice c.args.choice)) c.in_err-cases.ensures.twice in
     rw (p.1, p.2) (subst (λ (b : Bool). IsFault e b (has_no_case (given_choice c.args.choice))) (sym moved) more)
 
 pub returns-then-is_empty-clause-fault : goal.returns-then-is_empty-clause-fault
@@ -54,9 +56,10 @@ returns-then-is_empty-clause-fault c =
     let fs : List Field = map field_of c.args.fields.items in
     let hs : List Field = c.in-Some.fields in
     let tag = c.in-Some-choice.tag in
+    let kept = c.in-Some-choice.kept in
     let gs : List parts.Case = map given_case c.in-Some-choice.given.items in
-    let is : given_choice c.args.choice ≡ Some (tag, gs) = search rules in
-    let moved : is_twice_named fs (given_choice c.args.choice) ≡ is_twice_named hs (Some (tag, gs)) = ap (is_twice_named fs) is ∙ named_moved fs hs c.in-Some.ensures.found.same (Some (tag, gs)) in
+    let is : given_choice c.args.choice ≡ Some (tag, gs, kept) = search rules in
+    let moved : is_twice_named fs (given_choice c.args.choice) ≡ is_twice_named hs (Some (tag, gs, kept)) = ap (is_twice_named fs) is ∙ named_moved fs hs c.in-Some.ensures.found.same (Some (tag, gs, kept)) in
     let others = tag ∷ keys_of hs in
     let free : has_twice others ≡ false = tag_once hs tag (ap (is_among (keys_of hs)) (sym c.bytes.ensures) ∙ sym c.has.ensures ∙ c.if-has.false) (once_if_ascends hs c.in-Some.ensures.found.ascend) in
     let cs : List parts.Case = map case_of c.in_ok-cases.cases.items in
@@ -68,6 +71,7 @@ pub invariant_of-result-2 : goal.invariant_of-result-2
 invariant_of-result-2 c =
     let hs : List Field = c.in-Some.fields in
     let tag = c.in-Some-choice.tag in
+    let kept = c.in-Some-choice.kept in
     let gs : List parts.Case = map given_case c.in-Some-choice.given.items in
     let others = tag ∷ keys_of hs in
     let free : has_twice others ≡ false = tag_once hs tag (ap (is_among (keys_of hs)) (sym c.bytes.ensures) ∙ sym c.has.ensures ∙ c.if-has.false) (once_if_ascends hs c.in-Some.ensures.found.ascend) in
@@ -91,9 +95,10 @@ returns-clause-once c =
     let fs : List Field = map field_of c.args.fields.items in
     let hs : List Field = c.in-Some.fields in
     let tag = c.in-Some-choice.tag in
+    let kept = c.in-Some-choice.kept in
     let gs : List parts.Case = map given_case c.in-Some-choice.given.items in
-    let is : given_choice c.args.choice ≡ Some (tag, gs) = search rules in
-    let moved : is_twice_named fs (given_choice c.args.choice) ≡ is_twice_named hs (Some (tag, gs)) = ap (is_twice_named fs) is ∙ named_moved fs hs c.in-Some.ensures.found.same (Some (tag, gs)) in
+    let is : given_choice c.args.choice ≡ Some (tag, gs, kept) = search rules in
+    let moved : is_twice_named fs (given_choice c.args.choice) ≡ is_twice_named hs (Some (tag, gs, kept)) = ap (is_twice_named fs) is ∙ named_moved fs hs c.in-Some.ensures.found.same (Some (tag, gs, kept)) in
     let others = tag ∷ keys_of hs in
     let free : has_twice others ≡ false = tag_once hs tag (ap (is_among (keys_of hs)) (sym c.bytes.ensures) ∙ sym c.has.ensures ∙ c.if-has.false) (once_if_ascends hs c.in-Some.ensures.found.ascend) in
     moved ∙ none_twice (has_twice others) (is_twice_in others gs) free c.in_ok-cases.ensures.once
@@ -101,8 +106,9 @@ returns-clause-once c =
 pub returns-clause-some : goal.returns-clause-some
 returns-clause-some c =
     let tag = c.in-Some-choice.tag in
+    let kept = c.in-Some-choice.kept in
     let gs : List parts.Case = map given_case c.in-Some-choice.given.items in
-    let is : given_choice c.args.choice ≡ Some (tag, gs) = search rules in
+    let is : given_choice c.args.choice ≡ Some (tag, gs, kept) = search rules in
     let cs : List parts.Case = map case_of c.in_ok-cases.cases.items in
     let many : c.in_ok-cases.cases.len ≡ length gs = omega (arith, c.in_ok-cases.cases.ok.0, length-map c.in_ok-cases.cases.items case_of, as_many gs cs c.in_ok-cases.ensures.ordered) in
     ap has_no_case is ∙ ap (λ (n : ℕ). n == 0) (sym many) ∙ sym c.is_empty.ensures ∙ c.if-is_empty.false

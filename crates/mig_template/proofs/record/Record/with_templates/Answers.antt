@@ -3,7 +3,7 @@ use Rattle.std.specs.Prelude.{option_map}
 use Rattle.std.proofs.lemmas.List.{length-map}
 use Rattle.mig_model.specs.Template.{Field}
 use Rattle.mig_template.specs.Parts.{IsRecord, Cases}
-use Rattle.mig_template.specs.Retyped.{with_templates, choice_with}
+use Rattle.mig_template.specs.Retyped.{with_templates}
 use Rattle.mig_template.specs.View.{template_of, given_templates}
 use Rattle.mig_template.proofs.Retyped.{still_record}
 use Rattle.mig_template.proofs.record.Record.with_templates.Goals as goal

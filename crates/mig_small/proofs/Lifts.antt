@@ -13,7 +13,8 @@ use Rattle.mig_model.specs.declared.presence.Presence.TheVariants.{Must}
 use Rattle.mig_model.specs.Names.{by_bytes}
 use Rattle.mig_model.specs.Template.{Template, leaf, rec, Fields, Field, fields_of, no_choice}
 use Rattle.mig_model.specs.Const.{Const, const_kind}
-use Rattle.mig_small.specs.Function.{rename, add, new_fields, if_so}
+use Rattle.mig_small.specs.Function.{rename, add, new_fields}
+use Rattle.mig_model.specs.Fields.{if_so}
 use Rattle.mig_model.specs.Fields.{find_field, with_field, without_field, is_free}
 use Rattle.mig_small.specs.Rule.{Rule, function, seq, target}
 use Rattle.mig_small.specs.Small.{LeafField, leaf_fields, open_record}

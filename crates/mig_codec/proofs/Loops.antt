@@ -1,5 +1,5 @@
 -- What a loop over values or slots has written so far, and how much is left of them.
-use Rattle.std.proofs.Common.{◌≡◌, suc, ◌+◌, ◌<◌, ◌≤◌, List, [], ◌∷◌, ◌++◌, length, map, take, get_or, refl, sym, ap, ◌∙◌, arith}
+use Rattle.std.proofs.Common.{◌≡◌, suc, ◌+◌, ◌<◌, ◌≤◌, List, [], ◌∷◌, ◌++◌, map, refl, ap, arith}
 use Rattle.mig_model.specs.Plain.{Plain, trees_of}
 use Rattle.mig_value.specs.Typed.{Typed, items_of, out, out_items, out_slots, slots_of, typed_size, item_list_size, slot_list_size}
 use Rattle.mig_value.specs.View.{typed_of, slot_of}

@@ -1,6 +1,6 @@
 -- A value that fits as reading gives it has as many counted nodes as its tree has by the family.
-use Rattle.std.proofs.Common.{◌≡◌, ◌⊎◌, inl, inr, refl, sym, ap, ap₂, ◌∙◌, subst, ℕ, zero, suc, ◌+◌, ◌<◌, arith, List, [], ◌∷◌, ◌++◌, length, get_or, Bool, true, false, true≢false, Option, Some, None, MatchBool}
-use Rattle.std.specs.Prelude.{IsPermutation, Contains, sum_by, not, ◌||◌, is_some, if◌then◌else◌}
+use Rattle.std.proofs.Common.{◌≡◌, refl, sym, ap, ap₂, ◌∙◌, subst, ℕ, zero, suc, ◌+◌, ◌<◌, arith, List, [], ◌∷◌, ◌++◌, length, get_or, Bool, true, false, true≢false, Option, Some, None, MatchBool}
+use Rattle.std.specs.Prelude.{IsPermutation, Contains, sum_by, ◌||◌, is_some, if◌then◌else◌}
 use Rattle.std.specs.List.{AllByRecursion, list_any}
 use Rattle.std.specs.Map.{keys_of}
 use Rattle.std.specs.declared.cmp.Ordering.TheVariants.{Less}
@@ -16,27 +16,25 @@ use Rattle.mig_model.specs.Kinds.{kind_of, entries_of_pairs}
 use Rattle.mig_model.specs.Names.{by_bytes, IsNamed, found}
 use Rattle.mig_model.specs.Template as template
 use Rattle.mig_model.specs.Template.{Template, Fields, no_field, field, field_list, Choice, no_choice, choice, Cases, no_case, case, case_list, same_name, same_kind, has_kind}
-use Rattle.mig_model.specs.Inhabits.{Entries, has_tag}
+use Rattle.mig_model.specs.Inhabits.{Entries}
 use Rattle.mig_model.specs.Fields.{is_field, find_field}
 use Rattle.mig_model.specs.Family.{Family, body, has_twice, IsFormed}
 use Rattle.mig_laws.specs.Sides.{is_side, AreSides, SumsApart, FieldsApart, ChoiceApart, CasesApart}
 use Rattle.mig_laws.proofs.Tests.{split_and, split_or, same_name_is, same_name_itself, same_kind_itself}
 use Rattle.mig_laws.proofs.Formed.{body_apart}
 use Rattle.mig_laws.proofs.Reading.{tag_is}
-use Rattle.mig_template.specs.Parts as parts
 use Rattle.mig_template.specs.Parts.{is_among, has_twice_in, is_twice_in, is_twice_named, cases_in}
 use Rattle.mig_template.specs.Kept as kept
 use Rattle.mig_template.proofs.Found.{among_is_found}
 use Rattle.mig_value.specs.Typed as typed
 use Rattle.mig_value.specs.Typed.{Typed, Items, no_item, item, Slots, no_slot, slot, slots, slots_of, out, out_items, out_slots, tag_pair, in_order, Tag, typed_size}
 use Rattle.mig_value.specs.Parts as values
-use Rattle.mig_value.specs.Fit.{Fits, FieldsFit, ChoiceFits, CasesFit, EachItem, EachSlot, IsUnknown, IsAtomOf, TagFits, is_field_of_case, is_cased, FitWithin, FitAsRead}
+use Rattle.mig_value.specs.Fit.{Fits, FieldsFit, ChoiceFits, CasesFit, EachItem, EachSlot, IsUnknown, IsAtomOf, TagFits, is_field_of_case, FitWithin}
 use Rattle.mig_value.specs.Kept.{IsKept, ItemsKept, SlotsKept}
 use Rattle.mig_value.specs.Nodes.{Test, count, nodes, nodes_in_items, nodes_in_slots, sum_items, sum_entries, tally, tally_fields, tally_choice, tally_cases, tree_nodes}
 use Rattle.mig_value.proofs.Orders.{in_order_named}
 use Rattle.mig_codec.specs.Laws.{BodiesKept, NodesByTree}
 use Rattle.mig_codec.specs.Lists.{pairs_in}
-use Rattle.mig_codec.specs.Reading.{part_nodes}
 use Rattle.mig_codec.proofs.Pairs.{has_order}
 use Rattle.mig_codec.proofs.RowEnd.{among_other, or_false}
 use Rattle.mig_codec.proofs.RowLoop.{not_itself}
@@ -204,8 +202,17 @@ module _ (form : Form) (q : Test) (T : Count) (P : List ℕ → Typed → Type 0
     lists_sum : values.IsRecord given → sum_entries here (out_slots ss) ≡ nodes_in_slots q ss → sum_entries here (tag_pair tag) ≡ 0 → sum_entries here (out_slots cs) ≡ nodes_in_slots q cs → sum_entries here (out_slots rs) ≡ nodes_in_slots q rs
         → nodes_in_slots q ss + (nodes_in_slots q cs + nodes_in_slots q rs) ≡ sum_entries here (in_order all)
     lists_sum k e1 e2 e3 e4 =
-        omega (arith, sum_moved here all (in_order all) (ordered k).0, sum_append here (out_slots ss) (tag_pair tag ++ (out_slots cs ++ out_slots rs)), sum_append here (tag_pair tag) (out_slots cs ++ out_slots rs),
-        sum_append here (out_slots cs) (out_slots rs), e1, e2, e3, e4)
+        omega (
+          arith,
+          sum_moved here all (in_order all) (ordered k).0,
+          sum_append here (out_slots ss) (tag_pair tag ++ (out_slots cs ++ out_slots rs)),
+          sum_append here (tag_pair tag) (out_slots cs ++ out_slots rs),
+          sum_append here (out_slots cs) (out_slots rs),
+          e1,
+          e2,
+          e3,
+          e4,
+        )
 
   abbrev RecordCounts : (fs : Fields) (c : Choice) (ss : Slots) (tag : Option Tag) (cs rs : Slots) → Type 0
   RecordCounts fs c ss tag cs rs =

@@ -11,7 +11,7 @@ use Rattle.mig_model.specs.Plain as plain
 use Rattle.mig_model.specs.Plain.{Plain, pairs_of}
 use Rattle.mig_model.specs.Kinds.{entries_of_pairs}
 use Rattle.mig_model.specs.Names.{by_bytes, found}
-use Rattle.mig_model.specs.Inhabits.{Entries, has_tag}
+use Rattle.mig_model.specs.Inhabits.{Entries}
 use Rattle.mig_model.specs.Family.{Family}
 use Rattle.mig_model.specs.Fields.{find_field}
 use Rattle.mig_model.specs.Template.{Template, Field, Fields, no_field, field, fields_of, field_list, Cases, no_case, case, cases_of, same_name}
@@ -23,7 +23,6 @@ use Rattle.mig_value.specs.Nodes.{Test, count, tree_nodes, sum_entries, tally, t
 use Rattle.mig_codec.specs.Parted.{nodes_as, pair_nodes}
 use Rattle.mig_codec.specs.Reading.{part_nodes}
 use Rattle.mig_codec.specs.Row.{Row, Belongs, tagged, unknown, in_case, in_fields}
-use Rattle.mig_codec.proofs.PartsOf.{found_in}
 use Rattle.mig_codec.proofs.RowOf.{RowCase, untagged, tagged_as, kept_as, found_case_of, no_case_of}
 use Rattle.mig_codec.proofs.Tally.{Count}
 

@@ -28,6 +28,10 @@ wrong_part f V t = wrong f.form (place f) V t
 abbrev pub part_nodes : Family → Test → Template → Plain → ℕ
 part_nodes f p V t = tally f.form (λ m u. count (p m) + tree_nodes f p m u) V t
 
+-- for each test of names the value has as many nodes whose name passes as the tree has by the family
+abbrev pub HasNodesOf : Family → List ℕ → Plain → Typed → Type 0
+HasNodesOf f n t v = (p : Test) → nodes p v ≡ tree_nodes f p n t
+
 -- the value is one of the template, and its nodes are ones of their types
 abbrev pub IsTyped : Family → Template → Typed → Type 0
 IsTyped f V v = Fits (IsAtomOf f.form) (FitAsRead f.form (body f)) V v

@@ -39,8 +39,12 @@ abbrev pub in_fields : Option (Presence × Template) → Belongs → Belongs
 in_fields None other = other
 in_fields (Some s) other = common s.1
 
+-- by the fields alone
+abbrev pub among_fields : Row → List ℕ → Belongs
+among_fields row n = in_fields (found_field n row.fields) (in_case (found_field n row.cased))
+
 abbrev pub belongs : Row → List ℕ → Belongs
-belongs row n = if is_tag row.tag n then tagged else in_fields (found_field n row.fields) (in_case (found_field n row.cased))
+belongs row n = if is_tag row.tag n then tagged else among_fields row n
 
 -- what is wrong with a tree under a name that belongs there
 abbrev pub wrong_as : Form → (List ℕ → Plain → Option Place) → Rest → Belongs → Plain → Option Place

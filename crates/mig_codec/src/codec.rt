@@ -4,10 +4,9 @@ ghost use Rattle.mig_model.specs.Inhabits.{Inhabits, is_in_form};
 ghost use Rattle.mig_model.specs.Place as model;
 ghost use Rattle.mig_tree.specs.View.{plain_of};
 ghost use Rattle.mig_value.specs.Fit.{FitAsRead};
-ghost use Rattle.mig_value.specs.Nodes.{Test, nodes, tree_nodes};
 ghost use Rattle.mig_value.specs.Typed.{out};
 ghost use Rattle.mig_value.specs.View.{typed_of};
-ghost use Rattle.mig_codec.specs.Reading.{IsUnfit, FaultAt, StopsAt};
+ghost use Rattle.mig_codec.specs.Reading.{HasNodesOf, IsUnfit, FaultAt, StopsAt};
 
 use crate::ReadFault;
 use crate::reading::read_part;
@@ -43,7 +42,7 @@ pub fn read<'a>(
     requires form { is_in_form family.now.form (plain_of tree) ≡ true }
     ensures fits { IfOk result (λ v. FitAsRead family.now.form (body family.now) name.now (typed_of v)) }
     ensures tree { IfOk result (λ v. out (typed_of v) ≡ plain_of tree.entry) }
-    ensures nodes { IfOk result (λ v. (p : Test) → nodes p (typed_of v) ≡ tree_nodes family.now p name.now (plain_of tree.entry)) }
+    ensures nodes { IfOk result (λ v. HasNodesOf family.now name.now (plain_of tree.entry) (typed_of v)) }
     ensures inhabits { IfOk result (λ v. Inhabits family.now.form (body family.now) name.now (plain_of tree.entry)) }
     ensures unfit { IfErr result (λ e. IsUnfit e family.now name.now (plain_of tree.entry)) }
 {

@@ -1,8 +1,9 @@
-ghost use Rattle.std.specs.Prelude.{◌≡◌, option_map};
+ghost use Rattle.std.specs.Prelude.{◌≡◌, Some, option_map};
+ghost use Rattle.mig_model.specs.Plain.{text};
 ghost use Rattle.mig_model.specs.Place.{missing, sooner};
 ghost use Rattle.mig_model.specs.Template.{fields_of};
-ghost use Rattle.mig_template.specs.Parts.{found_case, found_field};
-ghost use Rattle.mig_codec.specs.Row.{row_of, with_case, is_must_field, musts_among};
+ghost use Rattle.mig_template.specs.Parts.{found_field};
+ghost use Rattle.mig_codec.specs.Row.{row_of, with_tag, is_must_field, musts_among};
 ghost use Rattle.mig_codec.specs.RowView.{row_view, missing_view, earlier};
 
 use mig_template::{Choice, Fields, Presence, Record, Rest, Template};
@@ -31,7 +32,7 @@ pub enum Belongs<'r> {
 
 /// The record at a map with this text under the tag, and `None` where it is no literal and isn't kept.
 fn row_tagged<'r>(schema: &'r Record, choice: &'r Choice, literal: &[u8]) -> Option<Row<'r>>
-    ensures { option_map row_view result ≡ with_case schema.now choice.now.0 choice.now.2 (found_case literal.now schema.now.choice) }
+    ensures { option_map row_view result ≡ with_tag schema.now choice.now.0 choice.now.2 (Some (text literal.now)) }
 {
     let fields = schema.fields();
     let tag = Some(choice.tag());
@@ -153,13 +154,12 @@ pub fn earlier<'r>(missing: Option<&'r Name>, name: &[u8]) -> Option<&'r Name>
 }
 
 impl<'r> Row<'r> {
-    ghost use Rattle.mig_template.specs.Parts.{found_field};
-    ghost use Rattle.mig_codec.specs.Row.{belongs, in_fields, in_case, missing_in};
+    ghost use Rattle.mig_codec.specs.Row.{among_fields, belongs, missing_in};
     ghost use Rattle.mig_codec.specs.RowView.{belongs_view};
 
     /// Where the name belongs among the fields alone.
     fn among_fields(&self, name: &[u8]) -> Belongs<'r>
-        ensures { belongs_view result ≡ in_fields (found_field name.now self.now.fields.now) (in_case (found_field name.now (row_view self.now).cased)) }
+        ensures { belongs_view result ≡ among_fields (row_view self.now) name.now }
     {
         if let Some(field) = self.fields.get(name) {
             return Belongs::Common(&field.template);

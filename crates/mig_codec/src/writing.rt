@@ -6,7 +6,7 @@ ghost use Rattle.mig_value.specs.Typed.{out, out_items, out_slots, items_of, slo
 ghost use Rattle.mig_value.specs.Parts.{record_of};
 ghost use Rattle.mig_value.specs.View.{typed_of, slot_of};
 ghost use Rattle.mig_value.specs.Nodes.{every, nodes};
-ghost use Rattle.mig_codec.specs.Lists.{item_nodes, slot_nodes, record_nodes, pairs_in};
+ghost use Rattle.mig_codec.specs.Lists.{item_nodes, slot_nodes, record_nodes, pairs_in, AddsSlots};
 
 use mig_tree::{Entries, Entry, Items, Memory, Steps, Text, Tree, gather};
 use mig_value::{RecValue, Slot, Value};
@@ -72,7 +72,7 @@ fn write_slots<'a, L: Ledger>(
     slots: Vec<Slot<'a>>,
     steps: &mut Steps<L>,
 ) -> Result<(), Memory>
-    ensures pairs { OnOk result (map entry_of list.new.items ≡ map entry_of list.old.items ++ out_slots (slots_of (map slot_of slots.entry.items))) }
+    ensures pairs { OnOk result (AddsSlots list.old.items slots.entry.items list.new.items) }
     ensures exact { OnOk result (steps.new ≡ steps.old + slot_nodes every (map slot_of slots.entry.items)) }
     ensures count { steps.new ≤ steps.old + slot_nodes every (map slot_of slots.entry.items) }
     ensures grows { steps.old ≤ steps.new }
@@ -97,8 +97,7 @@ fn write_tag<'a>(list: &mut Vec<Entry<'a>>, tag: Option<(Text<'a>, Text<'a>)>) -
 }
 
 /// How many pairs a record has.
-fn pair_count(fields: &[Slot], tag: &Option<(Text, Text)>, cased: &[Slot], rest: &[Slot]) -> usize
-{
+fn pair_count(fields: &[Slot], tag: &Option<(Text, Text)>, cased: &[Slot], rest: &[Slot]) -> usize {
     let tags = if tag.is_some() { 1 } else { 0 };
     fields
         .len()

@@ -17,7 +17,7 @@ use Rattle.mig_lift.proofs.Written.{removed_written, due_written, lifted_written
 use Rattle.mig_lift.proofs.InForm.{in_form}
 use Rattle.mig_lift.proofs.Decoded.{passed_tree}
 use Rattle.mig_lift.proofs.lifting.lift_tree.Goals as goal
-use Rattle.mig_lift.proofs.lifting.lift_tree.Goals.{In_ok-put}
+use Rattle.mig_lift.proofs.lifting.lift_tree.Goals.{After-drop-path-inside-2}
 use Rattle.mig_lift.proofs.lifting.lift_tree.Given.{Over}
 
 pub returns-in-Err-clause-lifts : goal.returns-in-Err-clause-lifts
@@ -57,16 +57,16 @@ returns-in_err-tree-clause-lifts g c =
     let after : plain_of c.strip_version.new.tree ≡ removed s.version t = c.strip_version.ensures.rest ∙ ap (λ p. strip p t) c.in_ok-path.ensures in
     let here : Checks (Err e) (family_with s (cond (nat_lt v s.second) s.before s.after)) (plain_of c.strip_version.new.tree) =
     subst (λ fs. Checks (Err e) (family_with s fs) (plain_of c.strip_version.new.tree)) c.fields_at.ensures c.in_err-tree.ensures.checks in
-    passed_tree e c.from_residual.result (lift_tree (chain_of s) c.args.target t) c.from_residual.ensures
+    passed_tree e c.from_residual-in_err-tree.result (lift_tree (chain_of s) c.args.target t) c.from_residual-in_err-tree.ensures
     (refused_by s c.keeps.ensures c.args.target t v (sym c.version_of.ensures ∙ c.in-Ok.is)
     (omega (arith, c.if-version-first.false, c.first.ensures)) (omega (arith, c.if-target-version.false)) c.requires.map (nat_lt v s.second) refl e
     (subst (λ u. Checks (Err e) (family_with s (cond (nat_lt v s.second) s.before s.after)) u) after here))
 
 -- the tree that was read is the one without the version name
-read_is : (g : Over) (c : In_ok-put g) → plain_of c.in_ok-tree.tree ≡ removed c.args.chain.now.version (plain_of c.args.tree)
+read_is : (g : Over) (c : After-drop-path-inside-2 g) → plain_of c.in_ok-tree.tree ≡ removed c.args.chain.now.version (plain_of c.args.tree)
 read_is g c = c.in_ok-tree.ensures.checks.0 ∙ c.strip_version.ensures.rest ∙ ap (λ p. strip p (plain_of c.args.tree)) c.in_ok-path.ensures
 
-target_put : (g : Over) (c : In_ok-put g) → plain_of c.put.new.tree ≡ put_in c.args.chain.now.version (version_tree c.args.chain.now.form c.args.target) (plain_of c.fix_if.new.tree)
+target_put : (g : Over) (c : After-drop-path-inside-2 g) → plain_of c.put.new.tree ≡ put_in c.args.chain.now.version (version_tree c.args.chain.now.form c.args.target) (plain_of c.fix_if.new.tree)
 target_put g c =
     c.in_ok-put.ensures.ok
     ∙ ap (λ p. put p (version_tree c.form.result c.args.target) (plain_of c.fix_if.new.tree)) c.in_ok-path.ensures

@@ -68,39 +68,38 @@ fn path(alloc: Global, names: &[&str]) -> Result<VersionPath, Fail> {
 
 /// The case `"chest" { "items": list text }`.
 fn chest(alloc: Global) -> Result<(Name, Vec<Field>), Fail> {
-    let texts = list_of(alloc, Template::Leaf(Kind::Text))?;
     let name = Name::new(alloc, b"chest")?;
+    let texts = list_of(alloc, Template::Leaf(Kind::Text))?;
     Ok((name, one_field(alloc, b"items", texts)?))
 }
 
 /// The case `"sign" { "line": text }`.
 fn sign(alloc: Global) -> Result<(Name, Vec<Field>), Fail> {
     let name = Name::new(alloc, b"sign")?;
-    Ok((
-        name,
-        one_field(alloc, b"line", Template::Leaf(Kind::Text))?,
-    ))
+    let line = one_field(alloc, b"line", Template::Leaf(Kind::Text))?;
+    Ok((name, line))
 }
 
-/// `block = { "pos": whole, choice "id" { .. } }` with these cases, and `world = { "blocks": list block, .. }`, the root.
-fn world_of(
+/// `{ "pos": whole, choice "id" { .. } }` with these cases.
+fn block(
     alloc: Global,
     cases: Vec<(Name, Vec<Field>)>,
     kept: bool,
     rest: Rest,
-) -> Result<Family, Fail> {
-    let choice = Some((Name::new(alloc, b"id")?, cases, kept));
+) -> Result<Template, Fail> {
+    let tag = Name::new(alloc, b"id")?;
     let fields = one_field(alloc, b"pos", Template::Leaf(Kind::Whole))?;
-    let block = Template::Rec(Record::new(alloc, fields, choice, rest)?);
-    let blocks = list_of(alloc, point_to(alloc, b"block")?)?;
+    let record = Record::new(alloc, fields, Some((tag, cases, kept)), rest)?;
+    Ok(Template::Rec(record))
+}
+
+/// `world = { "blocks": list block, .. }`, the root, with this block.
+fn world_of(alloc: Global, block: Template) -> Result<Family, Fail> {
     let mut types = Vec::new(alloc);
     add(alloc, &mut types, b"block", block)?;
-    add(
-        alloc,
-        &mut types,
-        b"world",
-        with_field(alloc, b"blocks", blocks)?,
-    )?;
+    let blocks = list_of(alloc, point_to(alloc, b"block")?)?;
+    let world = with_field(alloc, b"blocks", blocks)?;
+    add(alloc, &mut types, b"world", world)?;
     let version = path(alloc, &["v"])?;
     let root = Name::new(alloc, b"world")?;
     Ok(Family::new(alloc, Form::Json, version, types, root)?)
@@ -111,14 +110,14 @@ pub fn world(alloc: Global) -> Result<Family, Fail> {
     let mut cases = Vec::new(alloc);
     cases.push(sign(alloc)?)?;
     cases.push(chest(alloc)?)?;
-    world_of(alloc, cases, false, Rest::Open)
+    world_of(alloc, block(alloc, cases, false, Rest::Open)?)
 }
 
 /// A world of closed blocks that are chests, and where `kept` says so also others.
 pub fn closed_world(alloc: Global, kept: bool) -> Result<Family, Fail> {
     let mut cases = Vec::new(alloc);
     cases.push(chest(alloc)?)?;
-    world_of(alloc, cases, kept, Rest::Closed)
+    world_of(alloc, block(alloc, cases, kept, Rest::Closed)?)
 }
 
 /// `level = { "Data": { "LevelName": text }, .. }`, the root, whose version stands under `Data` and `DataVersion`.

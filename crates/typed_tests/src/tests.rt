@@ -87,6 +87,20 @@ fn check(
     Ok(())
 }
 
+/// The same once the version is taken out.
+fn check_without_version(
+    rt: &impl Abort,
+    alloc: Global,
+    family: &Family,
+    table: &[(&str, &str)],
+) -> Result<(), Fail> {
+    for (text, want) in table {
+        let found = outcome_without_version(alloc, family, text.as_bytes())?;
+        assert_eq!(rt; found.as_slice(), want.as_bytes());
+    }
+    Ok(())
+}
+
 /// Each text fits and is written as it was.
 fn check_kept(rt: &impl Abort, alloc: Global, family: &Family, texts: &[&str]) -> Result<(), Fail> {
     for text in texts {
@@ -200,15 +214,16 @@ fn a_version_below_the_root_is_taken_out_first(rt: HostRuntime) -> Result<(), Fa
     let family = level(alloc)?;
     let save = r#"{"Data":{"DataVersion":100,"LevelName":"w"}}"#;
     check(&rt, alloc, &family, &[(save, "/Data/DataVersion")])?;
-    for (text, want) in [
-        (save, "fits"),
-        (r#"{"Data":{"DataVersion":100}}"#, "/Data/LevelName"),
-        (r#"{"DataVersion":100}"#, "/Data"),
-    ] {
-        let found = outcome_without_version(alloc, &family, text.as_bytes())?;
-        assert_eq!(rt; found.as_slice(), want.as_bytes());
-    }
-    Ok(())
+    check_without_version(
+        &rt,
+        alloc,
+        &family,
+        &[
+            (save, "fits"),
+            (r#"{"Data":{"DataVersion":100}}"#, "/Data/LevelName"),
+            (r#"{"DataVersion":100}"#, "/Data"),
+        ],
+    )
 }
 
 #[test]

@@ -5,4 +5,4 @@ pub mod Loop
 pub mod Listing
 pub mod Commands
 pub mod Numbers
-pub mod Words
+pub mod Asking

@@ -1,5 +1,5 @@
 use Rattle.std.specs.Prelude.{map, string_bytes}
-use Rattle.lift_saves.proofs.Words.{nothing_asked, runs, of_asked}
+use Rattle.lift_saves.proofs.Asking.{nothing_asked, runs, of_asked}
 use Rattle.lift_saves.proofs.top_call.ending_of_words.Goals as goal
 
 pub returns-clause-told : goal.returns-clause-told

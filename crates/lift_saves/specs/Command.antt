@@ -1,6 +1,7 @@
 -- The words of the command line, and what a run of them does.
-use Rattle.std.specs.Prelude.{◌≡◌, ◌⊎◌, ℕ, ◌+◌, ◌-◌, ◌*◌, ◌<◌, ◌==◌, nat_lt, nat_le, ◌&&◌, if◌then◌else◌, Bool, List, [], ◌∷◌, length, Option, Some, None, option_map, Result, Ok, Err, codes, bytes_eq}
+use Rattle.std.specs.Prelude.{◌≡◌, ◌⊎◌, ℕ, ◌+◌, ◌-◌, ◌*◌, ◌<◌, ◌≤◌, ◌==◌, nat_lt, nat_le, ◌&&◌, if◌then◌else◌, Bool, List, [], ◌∷◌, length, Option, Some, None, option_map, Result, Ok, Err, codes, bytes_eq, decimal}
 use Rattle.mig_files.specs.Held.{Held, Rose, Counts}
+use Rattle.mig_model.specs.Version.{last_version}
 use Rattle.mig_small.specs.Chain.{Chain, first_schema}
 use Rattle.mig_small.specs.SmallText.{IsSmallText}
 use Rattle.lift_saves.specs.declared.stop.Stop.{Stop}
@@ -10,6 +11,11 @@ use Rattle.lift_saves.specs.declared.stop.Ending.TheVariants as ending
 use Rattle.lift_saves.specs.Lines.{usage_line, absent_line, not_yet_line, below_line}
 use Rattle.lift_saves.specs.Folder.{Job, job_of, Grows, GrowsInto, Untouched, WholeFolder}
 
+-- the word is the decimal text of a number that a version may be
+abbrev pub IsNumber : List ℕ → ℕ → Type 0
+IsNumber word n = (word ≡ decimal n) × (n ≤ last_version)
+
+-- ---- how a number is read
 -- plain decimal digits behind a number, which stays at most 2147483647
 abbrev pub number_from : ℕ → List ℕ → Option ℕ
 number_from n [] = Some n
@@ -31,7 +37,14 @@ abbrev pub asked_at : List ℕ → List ℕ → List ℕ → Option ℕ → Opti
 asked_at chain source aim None = None
 asked_at chain source aim (Some n) = Some (record { chain = chain; source = source; aim = aim; target = n })
 
--- `lift`, three names and a number
+-- the words ask for this: `lift`, three names and a number
+abbrev pub Asks : List (List ℕ) → Asked → Type 0
+Asks words a = (number : List ℕ) × (words ≡ codes "lift" ∷ a.chain ∷ a.source ∷ a.aim ∷ number ∷ []) × IsNumber number a.target
+
+abbrev pub AsksNothing : List (List ℕ) → Type 0
+AsksNothing words = (a : Asked) → Asks words a → ⊥
+
+-- what is read of the words
 abbrev pub asked : List (List ℕ) → Option Asked
 asked (command ∷ chain ∷ source ∷ aim ∷ target ∷ []) = if bytes_eq command (codes "lift") then asked_at chain source aim (number_of target) else None
 asked words = None
@@ -82,13 +95,16 @@ LiftRuns a held (Some text) new old_report new_report result =
     ⊎ (IsNoChain text × Refuses held not_yet_line new old_report new_report result)
     ⊎ ((c : Chain) × IsTheChain text c × LineOrFolder (below (first_of c) a.target) (job_of c a.target a.source a.aim held) new old_report new_report result)
 
+-- by what is read of the words
 abbrev pub RunsAsked : Option Asked → Held → Option Held → Option (List ℕ) → Option (List ℕ) → Result Ending Stop → Type 0
 RunsAsked None held new old_report new_report result = Refuses held usage_line new old_report new_report result
 RunsAsked (Some a) held new old_report new_report result = LiftRuns a held (held (46 ∷ [], a.chain)) new old_report new_report result
 
--- a run of the words on files that tell what they hold
+-- a run of the words on files that tell what they hold: they ask for nothing, or for a run of the command
 abbrev pub Runs : List (List ℕ) → Held → Option Held → Option (List ℕ) → Option (List ℕ) → Result Ending Stop → Type 0
-Runs words = RunsAsked (asked words)
+Runs words held new old_report new_report result =
+    (AsksNothing words × Refuses held usage_line new old_report new_report result)
+    ⊎ ((a : Asked) × Asks words a × LiftRuns a held (held (46 ∷ [], a.chain)) new old_report new_report result)
 
 -- why a line of status 2 is due, on files that tell nothing
 abbrev pub MayRefuse : ℕ → Counts → Counts → List ℕ → Type 0

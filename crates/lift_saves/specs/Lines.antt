@@ -1,6 +1,6 @@
 -- The lines of the report. Each ends in one line feed.
 use Rattle.std.specs.Prelude.{ℕ, List, [], ◌∷◌, ◌++◌, Result, Ok, Err, codes, decimal, flat_map}
-use Rattle.mig_model.specs.Place.{PlaceStep, Place, named, index}
+use Rattle.mig_tree.specs.Place.{place_text}
 use Rattle.mig_tree.specs.Spelling.{spelled_byte}
 use Rattle.mig_lift.specs.declared.fault.VersionKind.{VersionKind}
 use Rattle.mig_lift.specs.declared.fault.VersionKind.TheVariants as V
@@ -11,16 +11,6 @@ use Rattle.mig_lift.specs.Lift as lifting
 abbrev pub spelled : List ℕ → List ℕ
 spelled name = flat_map spelled_byte name
 
--- a slash, and the spelled name or the number
-abbrev pub step_line : PlaceStep → List ℕ
-step_line (named n) = 47 ∷ spelled n
-step_line (index i) = 47 ∷ decimal i
-
--- the steps of a place, and `/` for the root
-abbrev pub place_line : Place → List ℕ
-place_line [] = 47 ∷ []
-place_line (s ∷ ss) = flat_map step_line (s ∷ ss)
-
 abbrev pub kind_line : VersionKind → List ℕ
 kind_line V.Absent = codes "absent"
 kind_line V.Wrong = codes "wrong"
@@ -30,7 +20,7 @@ kind_line (V.Above v) = codes "above " ++ decimal v
 abbrev pub refusal : Cause → List ℕ
 refusal lifting.bytes = codes ": refused bytes"
 refusal (lifting.version k) = codes ": refused version " ++ kind_line k
-refusal (lifting.schema p) = codes ": refused schema " ++ place_line p
+refusal (lifting.schema p) = codes ": refused schema " ++ place_text p
 
 -- what a save's line says behind its name
 abbrev pub said : ℕ → Result Save Cause → List ℕ

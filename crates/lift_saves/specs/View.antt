@@ -6,7 +6,6 @@ use Rattle.mig_small.specs.Small.{chain_of}
 use Rattle.mig_lift.specs.Lift.{Save, Cause}
 use Rattle.mig_lift.specs.Lift as lifting
 use Rattle.mig_lift.specs.Setting.{Setting}
-use Rattle.mig_tree.specs.Place.{place_of}
 use Rattle.lift_saves.specs.declared.chain.Due.{Due}
 use Rattle.lift_saves.specs.declared.chain.Due.TheVariants as due
 use Rattle.lift_saves.specs.declared.save.Verdict.{Verdict}
@@ -31,7 +30,7 @@ found (verdict.Lifted b v) = Some (Ok (record { bytes = b.items; version = v }))
 found verdict.Absent = None
 found verdict.Bytes = Some (Err lifting.bytes)
 found (verdict.Version k) = Some (Err (lifting.version k))
-found (verdict.Schema p) = Some (Err (lifting.schema (place_of p)))
+found (verdict.Schema p) = Some (Err (lifting.schema p))
 
 -- what the answer of a judgement says of the bytes under a key
 abbrev pub Judges : Option (List ℕ) → (List ℕ → Result Save Cause) → Result Verdict Stop → Type 0

@@ -1,10 +1,10 @@
 // The lines of the report.
 ghost use Rattle.std.specs.Prelude.{◌≡◌, ◌≤◌, ◌++◌, [], ◌∷◌, OnOk, IfOk, IsErrOf, decimal, codes};
 ghost use Rattle.mig_files.specs.Held.{Rose};
-ghost use Rattle.lift_saves.specs.Lines.{spelled, kind_line, place_line};
+ghost use Rattle.lift_saves.specs.Lines.{spelled, kind_line};
 ghost use Rattle.lift_saves.specs.Command.{Says};
 ghost use Rattle.lift_saves.specs.View.{found, tells, Told};
-ghost use Rattle.mig_tree.specs.Place.{place_of};
+ghost use Rattle.mig_tree.specs.Place.{place_text};
 
 use crate::save::Verdict;
 use crate::stop::{Ending, Stop};
@@ -39,7 +39,7 @@ fn push_kind(alloc: Global, line: &mut Vec<u8>, kind: VersionKind) -> Result<(),
 }
 
 fn push_place(alloc: Global, line: &mut Vec<u8>, place: &Place) -> Result<(), Memory>
-    ensures { OnOk result (line.new.items ≡ line.old.items ++ place_line (place_of place.now)) }
+    ensures { OnOk result (line.new.items ≡ line.old.items ++ place_text place.now) }
 {
     let text = place.text(alloc)?;
     line.extend_from_slice(&text)?;

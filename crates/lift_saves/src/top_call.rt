@@ -2,7 +2,7 @@
 ghost use Rattle.std.specs.Prelude.{◌≡◌, ◌≤◌, None, Some, IfSome, map, string_bytes, IsErrOf, Ok};
 ghost use Rattle.mig_files.specs.Held.{Held, Rose, NoneFell};
 ghost use Rattle.lift_saves.specs.Lines.{usage_line};
-ghost use Rattle.lift_saves.specs.Command.{Runs, Outcome, Says, HasLine, asked};
+ghost use Rattle.lift_saves.specs.Command.{Asked, Asks, AsksNothing, Runs, RunsAsked, Outcome, Says, HasLine, asked};
 ghost use Rattle.lift_saves.specs.declared.stop.Ending.TheVariants as ending;
 
 use crate::command::lift_command;
@@ -14,7 +14,7 @@ use mig_tree::Steps;
 use std::alloc::Global;
 use std::sync::ledger::Ledger;
 
-// How a run of the words ends.
+/// How a run of the words ends, said of what is read of them.
 fn answer<F: Files, S: Sink, L: Ledger>(
     alloc: Global,
     words: &[String],
@@ -23,7 +23,7 @@ fn answer<F: Files, S: Sink, L: Ledger>(
     steps: &mut Steps<L>,
 ) -> Result<Ending, Stop>
     ensures told { (held : Held) → F.held files.old ≡ Some held →
-        Runs (map string_bytes words.now) held (F.held files.new) (S.written report.old) (S.written report.new) result }
+        RunsAsked (asked (map string_bytes words.now)) held (F.held files.new) (S.written report.old) (S.written report.new) result }
     ensures usage { asked (map string_bytes words.now) ≡ None →
         Says usage_line (S.written report.old) (S.written report.new) result × (F.held files.new ≡ F.held files.old) × (F.counts files.new ≡ F.counts files.old) }
     ensures untold { result ≡ Ok ending.NotRun →
@@ -40,6 +40,29 @@ fn answer<F: Files, S: Sink, L: Ledger>(
     }
 }
 
+/// How a run of the words ends, said of what they ask for.
+fn ending_of_words<F: Files, S: Sink, L: Ledger>(
+    alloc: Global,
+    words: &[String],
+    files: &mut F,
+    report: &mut S,
+    steps: &mut Steps<L>,
+) -> Result<Ending, Stop>
+    ensures told { (held : Held) → F.held files.old ≡ Some held →
+        Runs (map string_bytes words.now) held (F.held files.new) (S.written report.old) (S.written report.new) result }
+    ensures usage { AsksNothing (map string_bytes words.now) →
+        Says usage_line (S.written report.old) (S.written report.new) result × (F.held files.new ≡ F.held files.old) × (F.counts files.new ≡ F.counts files.old) }
+    ensures untold { result ≡ Ok ending.NotRun → (a : Asked) → Asks (map string_bytes words.now) a →
+        HasLine a.target (F.counts files.old) (F.counts files.new) (S.written report.old) (S.written report.new) }
+    ensures counts { NoneFell (F.counts files.old) (F.counts files.new) }
+    ensures later { S.faults report.old ≤ S.faults report.new }
+    ensures files { IsErrOf result Stop.Files → Rose (F.counts files.old).faults (F.counts files.new).faults }
+    ensures report { IsErrOf result Stop.Report → Rose (S.faults report.old) (S.faults report.new) }
+    ensures steps { steps.new ≡ steps.old }
+{
+    answer(alloc, words, files, report, steps)
+}
+
 /// Runs the words of a command line, without the program's name, and answers the exit status: 0 where all
 /// saves were lifted, 1 where one was refused, 2 where a line says why nothing was run, 3 where a call of the
 /// files failed, 4 where one of the report did, and 5 for want of memory.
@@ -52,10 +75,10 @@ pub fn run<F: Files, S: Sink, L: Ledger>(
 ) -> u8
     ensures told { (held : Held) → F.held files.old ≡ Some held →
         Outcome (Runs (map string_bytes words.now) held (F.held files.new) (S.written report.old) (S.written report.new)) result }
-    ensures usage { asked (map string_bytes words.now) ≡ None →
+    ensures usage { AsksNothing (map string_bytes words.now) →
         Outcome (Says usage_line (S.written report.old) (S.written report.new)) result × (F.held files.new ≡ F.held files.old) × (F.counts files.new ≡ F.counts files.old) }
-    ensures refused { result ≡ 2 →
-        IfSome (asked (map string_bytes words.now)) (λ a. HasLine a.target (F.counts files.old) (F.counts files.new) (S.written report.old) (S.written report.new)) }
+    ensures refused { result ≡ 2 → (a : Asked) → Asks (map string_bytes words.now) a →
+        HasLine a.target (F.counts files.old) (F.counts files.new) (S.written report.old) (S.written report.new) }
     ensures status { result ≤ 5 }
     ensures files { result ≡ 3 → Rose (F.counts files.old).faults (F.counts files.new).faults }
     ensures report { result ≡ 4 → Rose (S.faults report.old) (S.faults report.new) }
@@ -63,7 +86,7 @@ pub fn run<F: Files, S: Sink, L: Ledger>(
     ensures later { S.faults report.old ≤ S.faults report.new }
     ensures steps { steps.new ≡ steps.old }
 {
-    match answer(alloc, words, files, report, steps) {
+    match ending_of_words(alloc, words, files, report, steps) {
         Ok(Ending::AllLifted) => 0,
         Ok(Ending::SomeRefused) => 1,
         Ok(Ending::NotRun) => 2,

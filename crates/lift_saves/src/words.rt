@@ -1,4 +1,4 @@
-// The words of the command line.
+//! The words of the command line.
 ghost use Rattle.std.specs.Prelude.{◌≡◌, ◌≤◌, IfSome, option_map, map, string_bytes};
 ghost use Rattle.lift_saves.specs.Command.{number_of, asked};
 ghost use Rattle.lift_saves.specs.View.{asked_by};

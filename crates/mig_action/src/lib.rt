@@ -23,7 +23,7 @@ pub fn nodes_stay()
     ensures { NodesStay }
 {}
 
-/// The answer has at most as many nodes of each name as the value.
+/// For every test of names, the answer has at most as many nodes whose name passes as the value.
 pub fn no_more_nodes()
     ensures { NoMoreNodes }
 {}

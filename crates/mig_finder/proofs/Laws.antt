@@ -24,7 +24,7 @@ all_append : {A : Type 0} (Q : A → Type 0) (xs ys : List A) → AllByRecursion
 all_append Q [] ys h k = k
 all_append Q (x ∷ xs) ys h k = (h.0, all_append Q xs ys h.1 k)
 
-all_weaker : {A : Type 0} (Q R : A → Type 0) → ((x : A) → Q x → R x) → (xs : List A) → AllByRecursion Q xs → AllByRecursion R xs
+pub all_weaker : {A : Type 0} (Q R : A → Type 0) → ((x : A) → Q x → R x) → (xs : List A) → AllByRecursion Q xs → AllByRecursion R xs
 all_weaker Q R f [] h = tt
 all_weaker Q R f (x ∷ xs) h = (f x h.0, all_weaker Q R f xs h.1)
 
@@ -36,14 +36,14 @@ all_items : (Q R : Typed → Type 0) → ((v : Typed) → Q v → R v) → (vs :
 all_items Q R f no_item h = tt
 all_items Q R f (item v vs) h = (f v h.0, all_items Q R f vs h.1)
 
-distinct_fields : (fs : Fields) (c : Choice) → is_twice_named (field_list fs) (cases_in c) ≡ false → has_twice (names fs) ≡ false
+pub distinct_fields : (fs : Fields) (c : Choice) → is_twice_named (field_list fs) (cases_in c) ≡ false → has_twice (names fs) ≡ false
 distinct_fields fs no_choice d = d
-distinct_fields fs (choice tg cs) d =
+distinct_fields fs (choice tg cs k) d =
     let first = neither_so (has_twice (tg ∷ names fs)) (list_any (has_twice_in (tg ∷ names fs)) (case_list cs) || has_twice (literals cs)) d in
     (neither_so (is_among (names fs) tg) (has_twice (names fs)) first.0).1
 
-distinct_cases : (fs : Fields) (tg : List ℕ) (cs : Cases) → is_twice_named (field_list fs) (cases_in (choice tg cs)) ≡ false → (list_any (has_twice_in (tg ∷ names fs)) (case_list cs) ≡ false) × (has_twice (literals cs) ≡ false)
-distinct_cases fs tg cs d =
+pub distinct_cases : (fs : Fields) (tg : List ℕ) (cs : Cases) (k : Bool) → is_twice_named (field_list fs) (cases_in (choice tg cs k)) ≡ false → (list_any (has_twice_in (tg ∷ names fs)) (case_list cs) ≡ false) × (has_twice (literals cs) ≡ false)
+distinct_cases fs tg cs k d =
     let first = neither_so (has_twice (tg ∷ names fs)) (list_any (has_twice_in (tg ∷ names fs)) (case_list cs) || has_twice (literals cs)) d in
     neither_so (list_any (has_twice_in (tg ∷ names fs)) (case_list cs)) (has_twice (literals cs)) first.1
 
@@ -122,9 +122,9 @@ module _ (U : Typed → Type 0) (P : List ℕ → Typed → Type 0) (x : List �
     fit_choice : (c : Choice) (fs : Fields) (ss : Slots) (tag : Option Tag) (zs rs : Slots) → ChoiceKept c → is_twice_named (field_list fs) (cases_in c) ≡ false → TagFits c tag → has_cased_musts c tag (out_slots zs) ≡ true → EachSlot (FieldsFit U P fs) ss → EachSlot (ChoiceFits U P c tag) zs → (EachSlot (λ n w. is_among (names fs) n ≡ false) zs → AllFind (rec ss tag zs rs) (field_places x fs)) → AllFind (rec ss tag zs rs) (field_places x fs ++ choice_places x c)
     fit_choice no_choice fs ss tag zs rs kept d t m e h f =
         all_append (Finds U P (rec ss tag zs rs)) (field_places x fs) [] (f (weaker_slots (λ n w. ⊥) (λ n w. is_among (names fs) n ≡ false) (λ n w k. absurd k) zs h)) tt
-    fit_choice (choice tg cs) fs ss None zs rs kept d t m e h f = absurd t
-    fit_choice (choice tg cs) fs ss (Some t) zs rs kept d tag_fits m e h f =
-        let distinct = distinct_cases fs tg cs d in
+    fit_choice (choice tg cs k) fs ss None zs rs kept d t m e h f = absurd t
+    fit_choice (choice tg cs k) fs ss (Some t) zs rs kept d tag_fits m e h f =
+        let distinct = distinct_cases fs tg cs k d in
         all_append (Finds U P (rec ss (Some t) zs rs)) (field_places x fs) (case_places x cs)
         (f (weaker_slots (CasesFit U P t.1 cs) (λ n w. is_among (names fs) n ≡ false) (λ n w k. name_of_choice U P fs tg cs t n w distinct.0 k) zs h))
         (fit_cases cs (tg ∷ names fs) ss t zs rs kept distinct.0 distinct.1 (weaker_slots (FieldsFit U P fs) (λ n w. is_among (tg ∷ names fs) n ≡ true) (λ n w k. so_by_second (same_name n tg) (is_among (names fs) n) (name_of_field U P fs n w k)) ss e) h m)

@@ -2,3 +2,5 @@ pub mod Names
 pub mod Records
 pub mod Laws
 pub mod Lists
+pub mod Steps
+pub mod Leads

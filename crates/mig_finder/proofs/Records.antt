@@ -30,11 +30,11 @@ abbrev pub EachField : (List ℕ → Presence → Template → Type 0) → Field
 EachField Q no_field = Unit {0}
 EachField Q (field y p V fs) = Q y p V × EachField Q fs
 
-by_name : (R : List ℕ → Type 0) (fs : Fields) → ((y : List ℕ) → is_among (names fs) y ≡ true → R y) → EachField (λ y p V. R y) fs
+pub by_name : (R : List ℕ → Type 0) (fs : Fields) → ((y : List ℕ) → is_among (names fs) y ≡ true → R y) → EachField (λ y p V. R y) fs
 by_name R no_field f = tt
 by_name R (field y p V fs) f = (f y (so_by_first (same_name y y) (is_among (names fs) y) (name_itself y)), by_name R fs (λ z a. f z (so_by_second (same_name z y) (is_among (names fs) z) a)))
 
-from_three : (A B C D : List ℕ → Presence → Template → Type 0) → ((y : List ℕ) (p : Presence) (V : Template) → A y p V → B y p V → C y p V → D y p V) → (fs : Fields) → EachField A fs → EachField B fs → EachField C fs → EachField D fs
+pub from_three : (A B C D : List ℕ → Presence → Template → Type 0) → ((y : List ℕ) (p : Presence) (V : Template) → A y p V → B y p V → C y p V → D y p V) → (fs : Fields) → EachField A fs → EachField B fs → EachField C fs → EachField D fs
 from_three A B C D f no_field a b c = tt
 from_three A B C D f (field y p V fs) a b c = (f y p V a.0 b.0 c.0, from_three A B C D f fs a.1 b.1 c.1)
 

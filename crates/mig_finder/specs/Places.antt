@@ -32,7 +32,7 @@ abbrev mutual
 
   pub choice_places : List ℕ → Choice → List Place
   choice_places x no_choice = []
-  choice_places x (choice tag cs) = case_places x cs
+  choice_places x (choice tag cs kept) = case_places x cs
 
   pub case_places : List ℕ → Cases → List Place
   case_places x no_case = []

@@ -8,4 +8,4 @@ mod places;
 
 pub use fault::FindFault;
 pub use finding::{Found, find};
-pub use law::places_fit;
+pub use law::{places_fit, places_lead};

@@ -60,8 +60,8 @@ abbrev pub taken_by_rest : RecordParts → List ℕ → Bool
 taken_by_rest p n = has n p.fields || is_tag n p.choice
 
 -- a choice of these cases and one more
-abbrev pub with_more : List ℕ → List Case → Case → Option Cases
-with_more tag cs d = Some (tag, cs ++ d ∷ [])
+abbrev pub with_more : List ℕ → Bool → List Case → Case → Option Cases
+with_more tag kept cs d = Some (tag, cs ++ d ∷ [], kept)
 
 -- an operation on the cases themselves
 abbrev pub is_about_cases : FieldOp → Bool

@@ -5,7 +5,7 @@ use Rattle.mig_model.specs.Plain.{Plain}
 use Rattle.mig_model.specs.Kinds.{IsMap}
 use Rattle.mig_model.specs.Template.{Template, any, same_name}
 use Rattle.mig_model.specs.Inhabits.{depth}
-use Rattle.mig_fold.specs.Fold.{treat, fold_within}
+use Rattle.mig_fold.specs.Fold.{treat, fold_within, unless_skipped, none_skipped}
 use Rattle.mig_small.specs.Rule.{target, act, act_if, plain_rule}
 use Rattle.mig_model.specs.Family.{body, IsFormed}
 use Rattle.mig_small.specs.Chain.{IsAccepted, floor_family, fixed}
@@ -51,8 +51,8 @@ module _ (s : Small) where
         let bodies = body (family_with s s.before) in
         let r = rule_of s in
         let arm = λ (n : List ℕ) (u : Plain). act_if (target r n (bodies n)) r n (bodies n) u in
-        ap (λ V. act_if (target r s.root V) r s.root V (treat s.form (fold_within s.form bodies arm (depth t)) V t)) (body_is s.before)
-        ∙ ap (act_if (target r s.root (open_record s.before)) r s.root (open_record s.before)) (nothing_treated s.form (fold_within s.form bodies arm (depth t)) s.before t m)
+        ap (λ V. act_if (target r s.root V) r s.root V (treat s.form (unless_skipped none_skipped (fold_within s.form bodies none_skipped arm (depth t))) V t)) (body_is s.before)
+        ∙ ap (act_if (target r s.root (open_record s.before)) r s.root (open_record s.before)) (nothing_treated s.form (unless_skipped none_skipped (fold_within s.form bodies none_skipped arm (depth t))) s.before t m)
         ∙ ap (λ o. act_if o r s.root (open_record s.before) t) target_is
 
   pub fixed_is : (v aim : ℕ) (t : Plain) → fixed (chain_of s) v aim t ≡ cond (nat_lt v s.second && nat_le s.second aim) (plain_rule (rule_of s) s.form (body (family_with s s.before)) s.root t) t

@@ -52,8 +52,8 @@ pub one_type : (n m : List ℕ) (V W : model.Template) → n ≡ m → V ≡ W �
 one_type n m V W p q = λ i. (p i, q i) ∷ []
 
 -- a formed family has no fault
-pub memory_only : (s : Small) (fs : List LeafField) (form : Form) (version : List ℕ) (types : List Named) (root : List ℕ) (e : SchemaFault) → IsFormed (family_with s fs)
-    → form ≡ s.form → version ≡ s.version → types ≡ (s.root, open_record fs) ∷ [] → root ≡ s.root → IsFault e (first_flaw (family_of form version types root)) → e ≡ S.Memory
+pub memory_only : (s : Small) (fs : List LeafField) (form : Form) (version : List (List ℕ)) (types : List Named) (root : List ℕ) (e : SchemaFault) → IsFormed (family_with s fs)
+    → form ≡ s.form → version ≡ s.version ∷ [] → types ≡ (s.root, open_record fs) ∷ [] → root ≡ s.root → IsFault e (first_flaw (family_of form version types root)) → e ≡ S.Memory
 memory_only s fs form version types root e formed p q r t fault = only e (subst (λ f. IsFault e f) none fault)
   where
     same : family_of form version types root ≡ family_with s fs
@@ -73,4 +73,5 @@ memory_only s fs form version types root e formed p q r t fault = only e (subst 
     only S.SumOverlap h = absurd cc
     only S.MixedList h = absurd cc
     only S.RootNotRecord h = absurd cc
+    only S.VersionPath h = absurd cc
     only S.VersionNameUsed h = absurd cc

@@ -11,28 +11,28 @@ use Rattle.mig_model.specs.Template.{Template, no_choice, same_name}
 use Rattle.mig_model.specs.Family.{body}
 use Rattle.mig_value.specs.Typed.{Typed, atom, rec, Slots, no_slot, slot, typed_size}
 use Rattle.mig_value.specs.Fit.{Fits, FieldsFit, ChoiceFits, IsUnknown, IsAtom, IsAtomOf, EachSlot, FitWithin, FitAsRead}
-use Rattle.mig_codec.specs.Nodes.{nodes, nodes_in_slots}
+use Rattle.mig_value.specs.Nodes.{every, nodes, nodes_in_slots}
 use Rattle.mig_small.specs.Small.{Small, LeafField, leaf_fields, open_record, family_with}
 use Rattle.mig_lift.proofs.Accepted.{body_is}
 
-atom_nodes : (Q : Plain → Type 0) (v : Typed) → IsAtom Q v → nodes v ≡ 0
+atom_nodes : (Q : Plain → Type 0) (v : Typed) → IsAtom Q v → nodes every v ≡ 0
 atom_nodes Q (atom t) a = refl
 atom_nodes Q v a = absurd a
 
-slots_nodes : (Q : List ℕ → Typed → Type 0) → ((n : List ℕ) (v : Typed) → Q n v → nodes v ≡ 0) → (ss : Slots) → EachSlot Q ss → nodes_in_slots ss ≡ 0
+slots_nodes : (Q : List ℕ → Typed → Type 0) → ((n : List ℕ) (v : Typed) → Q n v → nodes every v ≡ 0) → (ss : Slots) → EachSlot Q ss → nodes_in_slots every ss ≡ 0
 slots_nodes Q h no_slot e = refl
 slots_nodes Q h (slot n v ss) e = rw (h n v e.0, slots_nodes Q h ss e.1) refl
 
 module _ (form : Form) (P : List ℕ → Typed → Type 0) where
-  field_nodes : (fs : List LeafField) (n : List ℕ) (v : Typed) → FieldsFit (IsAtomOf form) P (leaf_fields fs) n v → nodes v ≡ 0
+  field_nodes : (fs : List LeafField) (n : List ℕ) (v : Typed) → FieldsFit (IsAtomOf form) P (leaf_fields fs) n v → nodes every v ≡ 0
   field_nodes [] n v e = absurd e
   field_nodes (f ∷ fs) n v e = by (same_name n f.0) (field_nodes fs n v) e
     where
-      by : (b : Bool) → (FieldsFit (IsAtomOf form) P (leaf_fields fs) n v → nodes v ≡ 0) → MatchBool b (Fits (IsAtomOf form) P (template.leaf f.1) v) (FieldsFit (IsAtomOf form) P (leaf_fields fs) n v) → nodes v ≡ 0
+      by : (b : Bool) → (FieldsFit (IsAtomOf form) P (leaf_fields fs) n v → nodes every v ≡ 0) → MatchBool b (Fits (IsAtomOf form) P (template.leaf f.1) v) (FieldsFit (IsAtomOf form) P (leaf_fields fs) n v) → nodes every v ≡ 0
       by true rest e = atom_nodes (λ t. kind_of t ≡ f.1) v e
       by false rest e = rest e
 
-  record_nodes : (fs : List LeafField) (v : Typed) → Fits (IsAtomOf form) P (open_record fs) v → nodes v ≡ 0
+  record_nodes : (fs : List LeafField) (v : Typed) → Fits (IsAtomOf form) P (open_record fs) v → nodes every v ≡ 0
   record_nodes fs (rec ss tag cs rs) e =
       rw (
         slots_nodes (FieldsFit (IsAtomOf form) P (leaf_fields fs)) (field_nodes fs) ss e.2,
@@ -41,12 +41,12 @@ module _ (form : Form) (P : List ℕ → Typed → Type 0) where
       ) refl
   record_nodes fs v e = absurd e
 
-pub no_nodes : (s : Small) (fs : List LeafField) (v : Typed) → FitAsRead s.form (body (family_with s fs)) s.root v → nodes v ≡ 0
+pub no_nodes : (s : Small) (fs : List LeafField) (v : Typed) → FitAsRead s.form (body (family_with s fs)) s.root v → nodes every v ≡ 0
 no_nodes s fs v e = by (typed_size v) e
   where
     within : ℕ → List ℕ → Typed → Type 0
     within k = FitWithin (IsAtomOf s.form) (body (family_with s fs)) k
 
-    by : (k : ℕ) → within k s.root v → nodes v ≡ 0
+    by : (k : ℕ) → within k s.root v → nodes every v ≡ 0
     by zero e = absurd e
     by (suc k) e = record_nodes s.form (within k) fs v (subst (λ V. Fits (IsAtomOf s.form) (within k) V v) (body_is s fs) e)

@@ -12,11 +12,11 @@ use Rattle.mig_model.specs.Place.{Place}
 use Rattle.mig_small.specs.Small.{Small, LeafField, open_record, family_with, rule_of, chain_of, IsKept, Ascend}
 use Rattle.mig_lift.specs.declared.fault.VersionKind.{VersionKind}
 use Rattle.mig_lift.specs.declared.fault.VersionKind.TheVariants as V
-use Rattle.mig_tree.specs.Place.{place_of}
+use Rattle.mig_schema.specs.Version.{version_tree}
 use Rattle.mig_lift.specs.declared.fault.LiftFault.{LiftFault}
 use Rattle.mig_lift.specs.declared.fault.LiftFault.TheVariants as fault
 use Rattle.mig_lift.specs.View.{Causes, Checks}
-use Rattle.mig_lift.specs.Lift.{version, schema, version_of, version_tree, versioned, floored, placed, lift_tree}
+use Rattle.mig_lift.specs.Lift.{version, schema, version_of, versioned, floored, placed, lift_tree}
 use Rattle.mig_lift.proofs.Edits.{map_without}
 use Rattle.mig_lift.proofs.Accepted.{floor_is, first_before_second, formed_before, formed_after, plain_is, fixed_is}
 
@@ -71,7 +71,7 @@ module _ (s : Small) (kept : IsKept s) (aim : ℕ) (t : Plain) where
         pub refused_by : (e : LiftFault) → Checks (Err e) (family_with s (fields_at b)) (removed s.version t) → Causes e (lift_tree (chain_of s) aim t)
         refused_by fault.Bytes h = absurd h
         refused_by (fault.Version k) h = absurd h
-        refused_by (fault.Schema p) h = refused_schema (place_of p) h
+        refused_by (fault.Schema p) h = refused_schema p h
         refused_by fault.Memory h = tt
 
         pub lifted : place (family_with s (fields_at b)) s.root (removed s.version t) ≡ None

@@ -15,7 +15,7 @@ use Rattle.mig_json.proofs.Edits.{removed_json, put_json}
 use Rattle.mig_lift.proofs.Found.{got_json}
 use Rattle.mig_nbt.proofs.Spelled.{removed_spelled, put_spelled, got_spelled}
 use Rattle.mig_small.specs.Small.{Small, IsKept, IsSpelled, IsSpelledConst, open_record, rule_of}
-use Rattle.mig_lift.specs.Lift.{version_tree}
+use Rattle.mig_schema.specs.Version.{version_tree}
 use Rattle.mig_lift.specs.Writable.{IsWritable}
 use Rattle.mig_lift.proofs.Names.{name_is}
 use Rattle.mig_lift.proofs.Edits.{map_without, map_with, renamed_there, renamed_absent, added}

@@ -4,15 +4,15 @@ use Rattle.mig_model.specs.declared.form.Form.{Form}
 use Rattle.mig_model.specs.declared.form.Form.TheVariants as F
 use Rattle.mig_model.specs.Plain as plain
 use Rattle.mig_model.specs.Plain.{Plain}
-use Rattle.mig_model.specs.Kinds.{get_in, put_in, removed}
+use Rattle.mig_model.specs.Version.{last_version, version_in, strip, put}
 use Rattle.mig_model.specs.Family.{Family}
 use Rattle.mig_model.specs.Place.{Place, place}
-use Rattle.mig_model.specs.Version.{last_version}
 use Rattle.mig_small.specs.Chain.{Chain, floor_family, fixed}
 use Rattle.mig_json.specs.Decode.{decode_json}
 use Rattle.mig_json.specs.Writing.{json_text}
 use Rattle.mig_nbt.specs.Reading.{save_at}
 use Rattle.mig_nbt.specs.Writing.{save_text}
+use Rattle.mig_schema.specs.Version.{version_tree}
 use Rattle.mig_lift.specs.declared.fault.VersionKind.{VersionKind}
 use Rattle.mig_lift.specs.declared.fault.VersionKind.TheVariants as V
 
@@ -54,17 +54,13 @@ abbrev pub version_at : Chain → Option Plain → Result ℕ VersionKind
 version_at c None = or_missing c.missing
 version_at c (Some t) = number_in c.form t
 
--- the version of a save's tree: that under the version name, or else the `missing` number
+-- the version of a save's tree: that at the version path, or else the `missing` number
 abbrev pub version_of : Chain → Plain → Result ℕ VersionKind
-version_of c t = version_at c (get_in c.version t)
+version_of c t = version_at c (version_in c.version t)
 
-abbrev pub version_tree : Form → ℕ → Plain
-version_tree F.Nbt n = plain.int (pos n)
-version_tree F.Json n = plain.whole (pos n)
-
--- the tree without the version name, after the fixes, with the target under the version name; and the save's version
+-- the tree without its version, after the fixes, with the target put at the version path; and the save's version
 abbrev pub lifted_from : Chain → ℕ → Plain → ℕ → Plain × ℕ
-lifted_from c target t v = (put_in c.version (version_tree c.form target) (fixed c v target (removed c.version t)), v)
+lifted_from c target t v = (put c.version (version_tree c.form target) (fixed c v target (strip c.version t)), v)
 
 -- the first wrong place refuses
 abbrev pub placed : Chain → ℕ → Plain → ℕ → Option Place → Result (Plain × ℕ) Cause
@@ -74,7 +70,7 @@ placed c target t v (Some p) = Err (schema p)
 -- by the family of the greatest schema not above the version
 abbrev pub floored : Chain → ℕ → Plain → ℕ → Option Family → Result (Plain × ℕ) Cause
 floored c target t v None = Err (version (V.Below v))
-floored c target t v (Some f) = if nat_lt target v then Err (version (V.Above v)) else placed c target t v (place f f.root (removed c.version t))
+floored c target t v (Some f) = if nat_lt target v then Err (version (V.Above v)) else placed c target t v (place f f.root (strip c.version t))
 
 abbrev pub versioned : Chain → ℕ → Plain → Result ℕ VersionKind → Result (Plain × ℕ) Cause
 versioned c target t (Err k) = Err (version k)

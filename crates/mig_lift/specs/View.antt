@@ -7,7 +7,6 @@ use Rattle.mig_model.specs.Family.{Family}
 use Rattle.mig_model.specs.Place.{place}
 use Rattle.mig_tree.specs.declared.tree.Tree.{Tree}
 use Rattle.mig_tree.specs.View.{plain_of}
-use Rattle.mig_tree.specs.Place.{place_of}
 use Rattle.mig_small.specs.Small.{LeafField}
 use Rattle.mig_lift.specs.declared.fault.LiftFault.{LiftFault}
 use Rattle.mig_lift.specs.declared.fault.LiftFault.TheVariants as fault
@@ -17,7 +16,7 @@ use Rattle.mig_lift.specs.Lift.{Save, Cause, bytes, version, schema}
 abbrev pub Causes : {A : Type 0} → LiftFault → Result A Cause → Type 0
 Causes fault.Bytes is = is ≡ Err bytes
 Causes (fault.Version k) is = is ≡ Err (version k)
-Causes (fault.Schema p) is = is ≡ Err (schema (place_of p))
+Causes (fault.Schema p) is = is ≡ Err (schema p)
 Causes fault.Memory is = Unit {0}
 
 -- the answer on a tree is this, unless memory ran out
@@ -37,6 +36,6 @@ must_fields fs = map (λ f. (f.0, (Must, leaf f.1))) fs
 -- the tree comes back and has no wrong place at the root's type, or its first wrong place is told; want of memory says nothing
 abbrev pub Checks : Result Tree LiftFault → Family → Plain → Type 0
 Checks (Ok u) f t = (plain_of u ≡ t) × (place f f.root t ≡ None)
-Checks (Err (fault.Schema p)) f t = place f f.root t ≡ Some (place_of p)
+Checks (Err (fault.Schema p)) f t = place f f.root t ≡ Some p
 Checks (Err fault.Memory) f t = Unit {0}
 Checks (Err e) f t = ⊥

@@ -14,7 +14,7 @@ use mig_tree::{Memory, Name, Text, Tree};
 
 /// Takes a name out of a map and lets its tree go.
 #[tactic(auto, using(crate::proofs::Edits::map_without))]
-pub fn take_out(tree: &mut Tree, name: &Name)
+fn take_out(tree: &mut Tree, name: &Name)
     requires { IsMap (plain_of tree.old) }
     ensures map { IsMap (plain_of tree.new) }
     ensures rest { plain_of tree.new ≡ removed name.now (plain_of tree.old) }

@@ -9,15 +9,15 @@ ghost use Rattle.mig_lift.specs.Lift.{lift, lift_tree};
 ghost use Rattle.mig_lift.specs.View.{Lifts, LiftsTree};
 ghost use Rattle.mig_lift.specs.Writable.{IsWritable};
 
-use crate::fix::{fix, take_out};
+use crate::fix::fix;
 use crate::schema::read_by_schema;
-use crate::version::{version_of, version_tree};
+use crate::version::{strip_version, version_of, version_path};
 use crate::{LiftFault, VersionKind};
 use mig_json::JsonError;
 use mig_model::Form;
 use mig_nbt::NbtError;
 use mig_small::{SmallChain, SmallField};
-use mig_tree::{Memory, Steps, Text, Tree};
+use mig_tree::{Memory, Steps, Tree};
 use std::alloc::Global;
 use std::sync::ledger::Ledger;
 
@@ -70,11 +70,12 @@ fn lift_tree<'a, L: Ledger>(
     ensures count { steps.new ≡ steps.old }
 {
     chain.keeps();
-    let version = match version_of(chain, &tree) {
+    let path = version_path(alloc, chain)?;
+    let version = match version_of(chain, &path, &tree) {
         Ok(version) => version,
         Err(kind) => return Err(LiftFault::Version(kind)),
     };
-    take_out(&mut tree, chain.version_name());
+    strip_version(&path, &mut tree);
     if version < chain.first() {
         return Err(LiftFault::Version(VersionKind::Below(version)));
     }
@@ -83,8 +84,7 @@ fn lift_tree<'a, L: Ledger>(
     }
     let mut tree = read_by_schema(alloc, chain, fields_at(chain, version), tree, steps)?;
     fix_if(chain, is_due(chain, version, target), &mut tree)?;
-    let number = version_tree(chain.form(), target);
-    tree.put(Text::lent(chain.version_name().bytes()), number)?;
+    path.put(alloc, &mut tree, chain.form(), target)?;
     Ok((tree, version))
 }
 

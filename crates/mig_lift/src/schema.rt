@@ -10,6 +10,7 @@ ghost use Rattle.mig_small.specs.View.{field_of};
 ghost use Rattle.mig_lift.specs.View.{must_fields, Checks};
 
 use crate::LiftFault;
+use crate::version::version_path;
 use mig_codec::ReadFault;
 use mig_schema::{Family, SchemaFault};
 use mig_small::{SmallChain, SmallField};
@@ -64,7 +65,7 @@ fn family_with(alloc: Global, chain: &SmallChain, fields: &[SmallField]) -> Resu
     let record = open_record(alloc, fields)?;
     let mut types = Vec::new(alloc);
     types.push((chain.root().copy(alloc)?, record))?;
-    let version = chain.version_name().copy(alloc)?;
+    let version = version_path(alloc, chain)?;
     let root = chain.root().copy(alloc)?;
     match Family::new(alloc, chain.form(), version, types, root) {
         Ok(family) => Ok(family),

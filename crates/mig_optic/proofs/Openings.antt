@@ -1,5 +1,5 @@
 -- The place of a name in a record value is that of the value under the name.
-use Rattle.std.proofs.Common.{◌≡◌, ◌∙◌, ◌<◌, sym, ap, subst, refl, ℕ, suc, List, [], ◌∷◌, length, Bool, true, false, Option, Some, None, arith}
+use Rattle.std.proofs.Common.{◌≡◌, ◌∙◌, ◌<◌, sym, ap, ap₂, subst, refl, ℕ, suc, List, [], ◌∷◌, length, Bool, true, false, Option, Some, None, arith}
 use Rattle.std.specs.Prelude.{option_map, is_some, if◌then◌else◌}
 use Rattle.std.specs.Option.{option_or}
 use Rattle.std.specs.Ordering.{is_eq}
@@ -13,7 +13,7 @@ use Rattle.mig_value.specs.Parts.{RecordParts, record_of}
 use Rattle.mig_value.specs.declared.place.SlotPlace.{SlotPlace}
 use Rattle.mig_value.specs.declared.place.SlotPlace.TheVariants.{Field, Cased}
 use Rattle.mig_value.specs.Places.{place_in, value_at, with_value_at, first_place, place_of, IsPlace, value_there, with_value_there}
-use Rattle.mig_optic.specs.Fields.{value_in, with_value, under, with_under}
+use Rattle.mig_optic.specs.Fields.{null, value_in, with_value, under, with_under}
 use Rattle.mig_optic.specs.Holes.{name_at, name_there, IsFirst}
 
 is_same : (x n : List ℕ) → same_name x n ≡ true → n ≡ x
@@ -138,3 +138,23 @@ still_first x place p w h =
 
 pub same_there : (x : List ℕ) (place : SlotPlace) (p : RecordParts) (w : Typed) → AtName x place p → name_there place (with_value_there place w p) ≡ x
 same_there x place p w h = (at_name x place (with_value_there place w p) (h.stays w)).name
+
+abbrev in_slot : List ℕ → Typed → Slot
+in_slot n v = (n, v)
+
+-- ---- a record value whose value at the place of a name was taken out
+pub hole_first : (x : List ℕ) (place : SlotPlace) (p q : RecordParts) → place_of x p ≡ Some place → q ≡ with_value_there place null p → IsFirst place q
+hole_first x place p q e is = subst (λ (r : RecordParts). IsFirst place r) (sym is) (still_first x place p null (at_name x place p e))
+
+pub focus_is : (x : List ℕ) (place : SlotPlace) (p : RecordParts) (w : Typed) → place_of x p ≡ Some place → w ≡ value_there place p → under x (record_of p) ≡ Some w
+focus_is x place p w e is = (at_name x place p e).value ∙ ap (λ (v : Typed). Some v) (sym is)
+
+pub hole_is : (x : List ℕ) (place : SlotPlace) (p q : RecordParts) → place_of x p ≡ Some place → q ≡ with_value_there place null p → ◌≡◌ {A = Slot} (name_there place q, record_of q) (x, with_under x null (record_of p))
+hole_is x place p q e is =
+    let at : AtName x place p = at_name x place p e in
+    ap (λ (r : RecordParts). in_slot (name_there place r) (record_of r)) is ∙ ap₂ in_slot (same_there x place p null at) (at.changed null)
+
+-- the record value with another value in the hole
+pub filled : (place : SlotPlace) (p q : RecordParts) (w : Typed) (h : Slot) → IsFirst place p → q ≡ with_value_there place w p → ◌≡◌ {A = Slot} (name_there place p, record_of p) h → record_of q ≡ with_under h.0 w h.1
+filled place p q w h first is view =
+    ap record_of is ∙ (at_name (name_there place p) place p first).changed w ∙ ap (λ (s : Slot). with_under s.0 w s.1) view

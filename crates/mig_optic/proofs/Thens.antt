@@ -1,12 +1,12 @@
 -- The loops of an optic after another.
-use Rattle.std.proofs.Common.{◌≡◌, ◌+◌, ◌<◌, ◌≤◌, ◌∙◌, sym, ap, subst, refl, ℕ, zero, suc, List, [], ◌∷◌, ◌++◌, length, map, take, drop, reverse, get_or, arith}
+use Rattle.std.proofs.Common.{◌≡◌, ◌+◌, ◌<◌, ◌≤◌, ◌∙◌, sym, ap, ap₂, subst, refl, ℕ, zero, suc, List, [], ◌∷◌, ◌++◌, length, map, take, drop, reverse, get_or, arith}
 use Rattle.std.specs.List.{flat_map, AllByRecursion}
 use Rattle.std.proofs.lemmas.List.{reverse-append, reverse-reverse}
 use Rattle.mig_value.specs.Typed.{Typed}
 use Rattle.mig_value.specs.View.{typed_of}
 use Rattle.mig_value.specs.declared.value.Value.{Value}
-use Rattle.mig_optic.specs.Path.{Path, foci, crossed, total_of}
-use Rattle.mig_optic.specs.Rest.{Rest, both, Groups, no_group, group, part_of, groups_of, joins, join, AreFormed, group_count, total, Fits}
+use Rattle.mig_optic.specs.Path.{Path, then_, foci, crossed, total_of}
+use Rattle.mig_optic.specs.Rest.{Rest, rest_for, both, Groups, no_group, group, part_of, groups_of, joins, join, AreFormed, group_count, total, Fits}
 use Rattle.mig_optic.specs.Code.{rest_size, list_size}
 use Rattle.mig_optic.proofs.Sequences.{append_nil, append_assoc, map_append, length_more, length_take, length_drop, map_take, map_drop, length_views}
 
@@ -42,6 +42,25 @@ parted_next q f n m start fs fs' more gs gs' x vs w ef eg em ex en h =
     let b : map f gs' ≡ map f gs ++ part_of q (typed_of w) ∷ [] = ap (map f) eg ∙ map_append f gs (x ∷ []) ∙ ap (λ (y : ℕ × Rest). map f gs ++ y ∷ []) ex in
     let d : map typed_of (vs ++ w ∷ []) ≡ map typed_of vs ++ typed_of w ∷ [] = map_append typed_of vs (w ∷ []) in
     rw (a, b, en, d) (parted_step q (map typed_of fs) (map f gs) n start (map typed_of vs) (typed_of w) h)
+
+-- as many values as a length says
+pub as_many : (q : Path) (n len : ℕ) (more : List Value) (v : Typed) → n ≡ len → len ≡ length more → map typed_of more ≡ foci q v → n ≡ length (foci q v)
+as_many q n len more v a b e = a ∙ b ∙ sym (length_views more) ∙ ap length e
+
+-- the rest of an optic after another
+pub both_are : (p q : Path) (v : Typed) (r s : Rest) (gs hs : List (ℕ × Rest)) (vs : List Typed) → r ≡ s → s ≡ rest_for p v → gs ≡ hs → hs ≡ map (part_of q) vs → vs ≡ foci p v → both r (groups_of gs) ≡ rest_for (then_ p q) v
+both_are p q v r s gs hs vs a b c d e = ap₂ (λ (x : Rest) (l : List (ℕ × Rest)). both x (groups_of l)) (a ∙ b) (c ∙ d ∙ ap (map (part_of q)) e)
+
+-- what was crossed so far with what may be crossed in the value in hand is no more than all
+pub no_more : (f : Typed → ℕ) (all xs : List Value) (w : Value) → (rest : List Value) × (all ≡ xs ++ w ∷ rest) → total_of f (map typed_of xs) + f (typed_of w) ≤ total_of f (map typed_of all)
+no_more f all xs w s = subst (λ (l : List Value). total_of f (map typed_of xs) + f (typed_of w) ≤ total_of f (map typed_of l)) (sym s.1) (bound xs)
+  where
+    bound : (ys : List Value) → total_of f (map typed_of ys) + f (typed_of w) ≤ total_of f (map typed_of (ys ++ w ∷ s.0))
+    bound [] = omega arith
+    bound (y ∷ ys) = let i = bound ys in omega (arith, i)
+
+pub no_more_crossed : (f : Typed → ℕ) (all xs : List Value) (w : Value) (n m start : ℕ) → (rest : List Value) × (all ≡ xs ++ w ∷ rest) → m ≤ n + f (typed_of w) → n ≡ start + total_of f (map typed_of xs) → m ≤ start + total_of f (map typed_of all)
+no_more_crossed f all xs w n m start s less is = let within = no_more f all xs w s in omega (arith, within, less, is)
 
 -- each of the values is taken
 pub taken : (P : Typed → Type 0) (vs : List Value) (k : ℕ) (w : Value) → AllByRecursion P (map typed_of vs) → k < length vs → w ≡ get_or vs k w → P (typed_of w)

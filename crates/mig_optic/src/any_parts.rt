@@ -1,4 +1,4 @@
-ghost use Rattle.std.specs.Prelude.{◌≡◌, ◌+◌, IfOk, length, map};
+ghost use Rattle.std.specs.Prelude.{◌≡◌, ◌+◌, ◌≤◌, IfOk, length, map};
 ghost use Rattle.std.specs.List.{flat_map, AllByRecursion};
 ghost use Rattle.mig_value.specs.View.{typed_of};
 ghost use Rattle.mig_optic.specs.AnyView.{any_path, group_pair};
@@ -6,8 +6,9 @@ ghost use Rattle.mig_optic.specs.Path.{foci, Takes, crossed, total_of, then_};
 ghost use Rattle.mig_optic.specs.Rest.{rest_for, part_of, join, joins, Fits, groups_of, total, AreFormed};
 
 use crate::any_residue::{AnyGroup, AnyGroups, Held};
-use crate::lists::{only, single, take_front};
-use crate::{AnyOptic, AnyResidue, Counter, Cross, Each, Memory, Optic, Value};
+use crate::held::part_held;
+use crate::lists::{only, take_front};
+use crate::{AnyOptic, AnyResidue, Counter, Cross, Each, Here, Memory, Optic, Value};
 use std::alloc::Global;
 
 /// Parts a value by any optic.
@@ -21,34 +22,18 @@ fn part_any<'a, C: Counter>(
     requires { Takes (any_path optic.now) (typed_of value) }
     ensures foci { IfOk result (λ x. map typed_of x.0.items ≡ foci (any_path optic.now) (typed_of value.entry)) }
     ensures rest { IfOk result (λ x. x.1 ≡ rest_for (any_path optic.now) (typed_of value.entry)) }
-    ensures count { IfOk result (λ _. C.counted steps.new ≡ C.counted steps.old + crossed (any_path optic.now) (typed_of value.entry)) }
+    ensures exact { IfOk result (λ _. C.counted steps.new ≡ C.counted steps.old + crossed (any_path optic.now) (typed_of value.entry)) }
+    ensures count { C.counted steps.new ≤ C.counted steps.old + crossed (any_path optic.now) (typed_of value.entry) }
+    ensures grows { C.counted steps.old ≤ C.counted steps.new }
 {
     match optic {
-        AnyOptic::Here => Ok((single(alloc, value)?, AnyResidue::new(Held::Whole))),
-        AnyOptic::FieldAt(optic) => {
-            let (foci, rest) = optic.part(alloc, value, steps)?;
-            Ok((foci, AnyResidue::new(Held::Field(rest))))
-        }
-        AnyOptic::MayField(optic) => {
-            let (foci, rest) = optic.part(alloc, value, steps)?;
-            Ok((foci, AnyResidue::new(Held::May(rest))))
-        }
-        AnyOptic::CaseOf(optic) => {
-            let (foci, rest) = optic.part(alloc, value, steps)?;
-            Ok((foci, AnyResidue::new(Held::Case(rest))))
-        }
-        AnyOptic::Each => {
-            let (foci, rest) = Each.part(alloc, value, steps)?;
-            Ok((foci, AnyResidue::new(Held::Each(rest))))
-        }
-        AnyOptic::Side(optic) => {
-            let (foci, rest) = optic.part(alloc, value, steps)?;
-            Ok((foci, AnyResidue::new(Held::Side(rest))))
-        }
-        AnyOptic::Cross => {
-            let (foci, rest) = Cross.part(alloc, value, steps)?;
-            Ok((foci, AnyResidue::new(Held::Cross(rest))))
-        }
+        AnyOptic::Here => part_held(&Here, alloc, value, steps),
+        AnyOptic::FieldAt(optic) => part_held(optic, alloc, value, steps),
+        AnyOptic::MayField(optic) => part_held(optic, alloc, value, steps),
+        AnyOptic::CaseOf(optic) => part_held(optic, alloc, value, steps),
+        AnyOptic::Each => part_held(&Each, alloc, value, steps),
+        AnyOptic::Side(optic) => part_held(optic, alloc, value, steps),
+        AnyOptic::Cross => part_held(&Cross, alloc, value, steps),
         AnyOptic::Then(first, second) => part_then(first.get(), second.get(), alloc, value, steps),
     }
 }
@@ -65,7 +50,9 @@ fn part_then<'a, C: Counter>(
     requires { Takes (then_ (any_path first.now) (any_path second.now)) (typed_of value) }
     ensures foci { IfOk result (λ x. map typed_of x.0.items ≡ foci (then_ (any_path first.now) (any_path second.now)) (typed_of value.entry)) }
     ensures rest { IfOk result (λ x. x.1 ≡ rest_for (then_ (any_path first.now) (any_path second.now)) (typed_of value.entry)) }
-    ensures count { IfOk result (λ _. C.counted steps.new ≡ C.counted steps.old + crossed (then_ (any_path first.now) (any_path second.now)) (typed_of value.entry)) }
+    ensures exact { IfOk result (λ _. C.counted steps.new ≡ C.counted steps.old + crossed (then_ (any_path first.now) (any_path second.now)) (typed_of value.entry)) }
+    ensures count { C.counted steps.new ≤ C.counted steps.old + crossed (then_ (any_path first.now) (any_path second.now)) (typed_of value.entry) }
+    ensures grows { C.counted steps.old ≤ C.counted steps.new }
 {
     let (values, outer) = part_any(first, alloc, value, steps)?;
     let (foci, inner) = part_each(second, alloc, values, steps)?;
@@ -85,7 +72,9 @@ fn part_each<'a, C: Counter>(
     requires { AllByRecursion (Takes (any_path optic.now)) (map typed_of values.items) }
     ensures foci { IfOk result (λ x. map typed_of x.0.items ≡ flat_map (foci (any_path optic.now)) (map typed_of values.entry.items)) }
     ensures groups { IfOk result (λ x. map group_pair x.1.items ≡ map (part_of (any_path optic.now)) (map typed_of values.entry.items)) }
-    ensures count { IfOk result (λ _. C.counted steps.new ≡ C.counted steps.old + total_of (crossed (any_path optic.now)) (map typed_of values.entry.items)) }
+    ensures exact { IfOk result (λ _. C.counted steps.new ≡ C.counted steps.old + total_of (crossed (any_path optic.now)) (map typed_of values.entry.items)) }
+    ensures count { C.counted steps.new ≤ C.counted steps.old + total_of (crossed (any_path optic.now)) (map typed_of values.entry.items) }
+    ensures grows { C.counted steps.old ≤ C.counted steps.new }
 {
     let mut foci = Vec::new(alloc);
     let mut groups = Vec::new(alloc);

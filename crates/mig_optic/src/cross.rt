@@ -1,11 +1,9 @@
-ghost use Rattle.std.specs.Prelude.{◌≡◌, ◌+◌, IfOk, OnOk};
-ghost use Rattle.mig_value.specs.View.{typed_of};
+ghost use Rattle.std.specs.Prelude.{◌≡◌};
 
 use crate::lists::{only, single};
-use crate::{Counter, Memory, Name, Optic, Value};
-use mig_value::{Node, Tree};
+use crate::{Counter, Memory, Optic, Value};
+use mig_value::Node;
 use std::alloc::Global;
-use std::mem;
 
 /// The body of a node. Parting counts one.
 #[derive(Clone, Copy, Debug, Drop)]
@@ -15,19 +13,6 @@ pub struct Cross;
 #[derive(Debug, Drop)]
 pub struct CrossRest<'a> {
     node: Box<Node<'a>>,
-}
-
-impl<'a> CrossRest<'a> {
-    ghost use Rattle.mig_optic.specs.Fields.{null};
-
-    /// Puts another body into the node, and gives the old node, without its name. No memory is taken, since a name without bytes takes none.
-    fn refill(&mut self, alloc: Global, body: Value<'a>) -> Result<Node<'a>, Memory>
-        ensures old { IfOk result (λ n. n.1 ≡ self.old.node.value.1) }
-        ensures new { OnOk result (self.new.node.value ≡ (self.old.node.value.0, typed_of body.entry)) }
-    {
-        let name = self.node.swap_name(Name::new(alloc, b"")?);
-        Ok(mem::replace(&mut *self.node, Node::new(name, body)))
-    }
 }
 
 impl<'a> Optic<'a> for Cross {
@@ -49,9 +34,9 @@ impl<'a> Optic<'a> for Cross {
         let Value::Point(node) = value else {
             unreachable!()
         };
-        let mut rest = CrossRest { node };
-        let full = rest.refill(alloc, Value::Atom(Tree::Null))?;
-        Ok((single(alloc, full.enter(steps))?, rest))
+        let mut node = node;
+        let body = node.open(steps);
+        Ok((single(alloc, body)?, CrossRest { node }))
     }
 
     fn rejoin(
@@ -60,9 +45,9 @@ impl<'a> Optic<'a> for Cross {
         foci: Vec<Value<'a>>,
         residue: CrossRest<'a>,
     ) -> Result<Value<'a>, Memory> {
-        let mut rest = residue;
-        drop(rest.refill(alloc, only(foci))?);
-        let CrossRest { node } = rest;
+        let CrossRest { node } = residue;
+        let mut node = node;
+        node.close(only(foci));
         Ok(Value::Point(node))
     }
 }

@@ -8,6 +8,7 @@ mod case;
 mod cross;
 mod each;
 mod field;
+mod held;
 mod here;
 mod laws;
 mod lists;

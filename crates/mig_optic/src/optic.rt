@@ -1,4 +1,4 @@
-ghost use Rattle.std.specs.Prelude.{◌≡◌, ◌+◌, IfOk, length, map};
+ghost use Rattle.std.specs.Prelude.{◌≡◌, ◌+◌, ◌≤◌, IfOk, length, map};
 ghost use Rattle.mig_value.specs.View.{typed_of};
 ghost use Rattle.mig_optic.specs.Path.{Path, foci, Takes, crossed};
 ghost use Rattle.mig_optic.specs.Rest.{Rest, rest_for, join, Fits};
@@ -25,7 +25,9 @@ pub trait Optic<'a> {
         requires { Takes (path self.now) (typed_of value) }
         ensures foci { IfOk result (λ x. map typed_of x.0.items ≡ foci (path self.now) (typed_of value.entry)) }
         ensures rest { IfOk result (λ x. rest x.1 ≡ rest_for (path self.now) (typed_of value.entry)) }
-        ensures count { IfOk result (λ _. C.counted steps.new ≡ C.counted steps.old + crossed (path self.now) (typed_of value.entry)) };
+        ensures exact { IfOk result (λ _. C.counted steps.new ≡ C.counted steps.old + crossed (path self.now) (typed_of value.entry)) }
+        ensures count { C.counted steps.new ≤ C.counted steps.old + crossed (path self.now) (typed_of value.entry) }
+        ensures grows { C.counted steps.old ≤ C.counted steps.new };
 
     /// Gives the value of these foci and this residue. It moves them and copies none; only an optic after another allocates.
     fn rejoin(

@@ -1,4 +1,4 @@
-ghost use Rattle.std.specs.Prelude.{◌≡◌, ◌+◌, IfOk, length, map};
+ghost use Rattle.std.specs.Prelude.{◌≡◌, ◌+◌, ◌≤◌, IfOk, length, map};
 ghost use Rattle.std.specs.List.{flat_map, AllByRecursion};
 ghost use Rattle.mig_value.specs.View.{typed_of};
 ghost use Rattle.mig_optic.specs.Path.{foci, Takes, crossed, total_of};
@@ -39,7 +39,9 @@ fn part_each<'a, Q: Optic<'a>, C: Counter>(
     requires { AllByRecursion (Takes (Q.path optic.now)) (map typed_of values.items) }
     ensures foci { IfOk result (λ x. map typed_of x.0.items ≡ flat_map (foci (Q.path optic.now)) (map typed_of values.entry.items)) }
     ensures groups { IfOk result (λ x. map (λ g. (g.count, Q.rest g.residue)) x.1.items ≡ map (part_of (Q.path optic.now)) (map typed_of values.entry.items)) }
-    ensures count { IfOk result (λ _. C.counted steps.new ≡ C.counted steps.old + total_of (crossed (Q.path optic.now)) (map typed_of values.entry.items)) }
+    ensures exact { IfOk result (λ _. C.counted steps.new ≡ C.counted steps.old + total_of (crossed (Q.path optic.now)) (map typed_of values.entry.items)) }
+    ensures count { C.counted steps.new ≤ C.counted steps.old + total_of (crossed (Q.path optic.now)) (map typed_of values.entry.items) }
+    ensures grows { C.counted steps.old ≤ C.counted steps.new }
 {
     let mut foci = Vec::new(alloc);
     let mut groups = Vec::new(alloc);

@@ -1,5 +1,5 @@
 -- Which names a named type reaches: by the points in its body, by those in the bodies of these, and so on.
-use Rattle.std.specs.Prelude.{ℕ, List, [], ◌∷◌, ◌++◌, Contains}
+use Rattle.std.specs.Prelude.{◌≡◌, ◌↔◌, ℕ, List, [], ◌∷◌, ◌++◌, Some, Contains}
 use Rattle.std.specs.List.{filter_map}
 use Rattle.mig_model.specs.Family.{Family, body}
 use Rattle.mig_model.specs.Template.{Template, leaf, any, list, point, rec, sum, Fields, no_field, field, Choice, no_choice, choice, Cases, no_case, case}
@@ -35,3 +35,7 @@ pub data Reaches (f : Family) : List ℕ → List ℕ → Type 0 where
 -- the places of those names that are types
 abbrev pub places : List Named → List (List ℕ) → List ℕ
 places ts ns = filter_map (place_of ts) ns
+
+-- the places, in the order of declaration, are those of the types that the name reaches
+abbrev pub ArePlacesReached : Family → List ℕ → List ℕ → Type 0
+ArePlacesReached f from qs = (to : List ℕ) (q : ℕ) → place_of f.types to ≡ Some q → Contains qs q ↔ Reaches f from to

@@ -5,12 +5,13 @@ ghost use Rattle.mig_model.specs.Family.{IsFormed, IsSame, find_type, is_named, 
 ghost use Rattle.mig_template.specs.View.{template_of};
 ghost use Rattle.mig_schema.specs.Types.{named_all, family_of, AllKept};
 ghost use Rattle.mig_schema.specs.Fault.{IsFault};
-ghost use Rattle.mig_schema.specs.Reach.{Reaches};
+ghost use Rattle.mig_schema.specs.Reach.{Reaches, ArePlacesReached};
 
 use crate::checks::Check;
 use crate::named::NamedTypes;
 use crate::parts::Parts;
 use crate::{Form, Memory, Name, SchemaFault, Template, VersionPath};
+use indexmap::IndexSet;
 use std::alloc::Global;
 use std::marker::Model;
 
@@ -136,6 +137,13 @@ impl Family {
     {
         let parts = self.parts.copy(alloc)?;
         Ok(Family { parts })
+    }
+
+    /// The places, in the order of declaration, of the types that the name reaches, itself among them. Each body is visited at most once.
+    pub fn reached(&self, alloc: Global, from: &Name) -> Result<IndexSet<usize>, Memory>
+        ensures { IfOk result (λ found. ArePlacesReached self.now from.now found.keys) }
+    {
+        self.parts.reached(alloc, from)
     }
 
     /// Whether the first name reaches the second: it is that name, or a point in its body is to a name that reaches it. Each body is visited at most once.

@@ -3,7 +3,7 @@ ghost use Rattle.indexmap.specs.IndexSet.{insert_all};
 ghost use Rattle.mig_model.specs.Family.{is_named};
 ghost use Rattle.mig_model.specs.Template.{fields_of, cases_of};
 ghost use Rattle.mig_template.specs.View.{template_of};
-ghost use Rattle.mig_schema.specs.Reach.{points, field_points, case_points, places, Reaches};
+ghost use Rattle.mig_schema.specs.Reach.{points, field_points, case_points, places, Reaches, ArePlacesReached};
 
 use crate::named::NamedTypes;
 use crate::parts::Parts;
@@ -70,10 +70,9 @@ impl NamedTypes {
 }
 
 impl Parts {
-    /// Whether the type of the first name reaches the other, which is a named type. It visits each body at most once.
-    pub fn reaches(&self, alloc: Global, from: &Name, to: &Name) -> Result<bool, Memory>
-        requires { IsTrue (is_named self.now to.now) }
-        ensures { IfOk result (λ b. IsTrue b ↔ Reaches self.now from.now to.now) }
+    /// The places of the types that the name reaches. It visits each body at most once.
+    pub fn reached(&self, alloc: Global, from: &Name) -> Result<IndexSet<usize>, Memory>
+        ensures { IfOk result (λ found. ArePlacesReached self.now from.now found.keys) }
     {
         self.keeps();
         let types = self.types();
@@ -85,7 +84,16 @@ impl Parts {
             types.add_places(body, &mut found)?;
             at += 1;
         }
-        let place = types.place_of(to).unwrap();
+        Ok(found)
+    }
+
+    /// Whether the type of the first name reaches the other, which is a named type. It visits each body at most once.
+    pub fn reaches(&self, alloc: Global, from: &Name, to: &Name) -> Result<bool, Memory>
+        requires { IsTrue (is_named self.now to.now) }
+        ensures { IfOk result (λ b. IsTrue b ↔ Reaches self.now from.now to.now) }
+    {
+        let found = self.reached(alloc, from)?;
+        let place = self.types().place_of(to).unwrap();
         Ok(found.contains(&place))
     }
 }

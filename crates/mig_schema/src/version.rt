@@ -69,6 +69,13 @@ impl VersionPath {
         reached(self.names(), tree)
     }
 
+    /// Whether the names but the last lead to a map, into which a version can be put. It takes no memory.
+    pub fn has_spot(&self, tree: &Tree) -> bool
+        ensures { result ≡ is_some (spot self.now (plain_of tree.now)) }
+    {
+        leads_to_map(self.names(), tree)
+    }
+
     /// Takes the last name out, and answers its tree. It takes no memory.
     pub fn strip<'a>(&self, tree: &mut Tree<'a>) -> Option<Tree<'a>>
         ensures version { option_map plain_of result ≡ version_in self.now (plain_of tree.old) }
@@ -134,6 +141,23 @@ fn reached<'t, 'a>(names: &[Name], tree: &'t Tree<'a>) -> Option<&'t Tree<'a>>
         Some(inner) if rest.is_empty() => Some(inner),
         Some(inner) => reached(rest, inner),
         None => None,
+    }
+}
+
+/// Whether the names but the last lead to a map. It goes down once for each of them.
+fn leads_to_map(names: &[Name], tree: &Tree) -> bool
+    requires { 0 < length names.now }
+    ensures { result ≡ is_some (spot names.now (plain_of tree.now)) }
+{
+    let Some((name, rest)) = names.split_first() else {
+        return false;
+    };
+    if rest.is_empty() {
+        return matches!(tree, Tree::Map(_));
+    }
+    match tree.get(name.bytes()) {
+        Some(inner) => leads_to_map(rest, inner),
+        None => false,
     }
 }
 

@@ -53,14 +53,11 @@ fn parted<'a>(
 }
 
 /// The value of a record that has these fields alone.
-fn open_record<'a>(alloc: Global, fields: Vec<Slot<'a>>) -> Value<'a>
+fn open_record<'a>(fields: Vec<Slot<'a>>) -> Value<'a>
     requires { Ascends (map slot_of fields.items) }
     ensures { typed_of result ≡ open_record (map slot_of fields.entry.items) }
 {
-    let fields = Slots::new(fields);
-    let cased = Slots::empty(alloc);
-    let rest = Slots::empty(alloc);
-    Value::Rec(RecValue::new(fields, None, cased, rest))
+    Value::Rec(RecValue::of_fields(Slots::new(fields)))
 }
 
 /// Moves the fields of these names into a record of their own. Its slot borrows the new name.
@@ -77,7 +74,7 @@ pub fn nest<'a>(
     let (inside, mut outside) = parted(alloc, slots, xs)?;
     let slot = Slot {
         name: Text::lent(y.bytes()),
-        value: open_record(alloc, inside),
+        value: open_record(inside),
     };
     put_slot(&mut outside, slot)?;
     drop_slot(&mut rest, y.bytes());
@@ -129,13 +126,17 @@ fn merged<'a>(mut slots: Vec<Slot<'a>>, fields: Slots<'a>) -> Result<Vec<Slot<'a
 }
 
 /// The slots with the fields of the record put among them; a value that is no record has none.
-fn with_inner<'a>(slots: Vec<Slot<'a>>, value: Option<Value<'a>>) -> Result<Vec<Slot<'a>>, Memory>
+fn with_inner<'a>(
+    alloc: Global,
+    slots: Vec<Slot<'a>>,
+    value: Option<Value<'a>>,
+) -> Result<Vec<Slot<'a>>, Memory>
     requires { Ascends (map slot_of slots.items) }
     ensures { IfOk result (λ v. map slot_of v.items ≡ put_all (inner_slots (option_map typed_of value.entry)) (map slot_of slots.entry.items)) }
 {
     match value {
         Some(Value::Rec(record)) => {
-            let (fields, tag, cased, rest) = record.into_parts();
+            let (fields, tag, cased, rest) = record.into_parts(alloc);
             drop(tag);
             drop(cased);
             drop(rest);
@@ -149,13 +150,18 @@ fn with_inner<'a>(slots: Vec<Slot<'a>>, value: Option<Value<'a>>) -> Result<Vec<
 }
 
 /// Moves the fields of the record under the name out of it. What was unknown to it is let go, as are unknown slots of the names that it declares.
-pub fn unnest<'a>(mut moving: Moving<'a>, y: &Name, inner: &Fields) -> Result<Moving<'a>, Memory>
+pub fn unnest<'a>(
+    alloc: Global,
+    mut moving: Moving<'a>,
+    y: &Name,
+    inner: &Fields,
+) -> Result<Moving<'a>, Memory>
     requires { IsOrdered (moving_of moving) }
     ensures { let given = moving_of moving.entry in IfOk result (λ m. moving_of m ≡ record { slots = put_all (inner_slots (under y.now given.slots)) (without y.now given.slots); rest = others (keys_of inner.now) given.rest }) }
 {
     let value = take_value(&mut moving.slots, y.bytes());
     keep_undeclared(&mut moving.rest, inner);
     let Moving { slots, rest } = moving;
-    let slots = with_inner(slots, value)?;
+    let slots = with_inner(alloc, slots, value)?;
     Ok(Moving { slots, rest })
 }

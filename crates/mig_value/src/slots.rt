@@ -1,7 +1,7 @@
 ghost use Rattle.std.specs.Prelude.{◌≡◌, ◌<◌, [], eqb, length, map};
 ghost use Rattle.mig_model.specs.Ascends.{Ascends};
 
-use crate::keeping::keep_slots;
+use crate::keeping::slots_are_kept;
 use crate::{Text, Value};
 use std::alloc::Global;
 use std::marker::Model;
@@ -75,7 +75,7 @@ impl<'a> Slots<'a> {
         requires { Ascends (map slot_of list.items) }
         ensures { result ≡ map slot_of list.entry.items }
     {
-        keep_slots(&list);
+        prove!(slots_are_kept(&list));
         Slots { list }
     }
 

@@ -1,7 +1,7 @@
 ghost use Rattle.std.specs.Prelude.{◌≡◌, map};
 
 use crate::Value;
-use crate::keeping::keep_items;
+use crate::keeping::are_kept;
 use std::marker::Model;
 
 /// The items of a list, which contracts see as a list of plain values.
@@ -46,7 +46,7 @@ impl<'a> Values<'a> {
     pub fn new(list: Vec<Value<'a>>) -> Values<'a>
         ensures { result ≡ map typed_of list.entry.items }
     {
-        keep_items(&list);
+        prove!(are_kept(&list));
         Values { list }
     }
 

@@ -56,9 +56,7 @@ pub fn of_a<'a>(rt: &impl Abort, alloc: Global, value: Value<'a>) -> Value<'a>
 {
     let slots = vec![in alloc; slot(b"a", value)].expect(rt, MEMORY);
     let fields = Slots::new(slots);
-    let cased = Slots::empty(alloc);
-    let rest = Slots::empty(alloc);
-    Value::Rec(RecValue::new(fields, None, cased, rest))
+    Value::Rec(RecValue::of_fields(fields))
 }
 
 /// A record value of the fields `x` and `y`.
@@ -67,9 +65,7 @@ pub fn of_xy<'a>(rt: &impl Abort, alloc: Global, x: i32, y: i32) -> Value<'a>
 {
     let slots = vec![in alloc; slot(b"x", int(x)), slot(b"y", int(y))].expect(rt, MEMORY);
     let fields = Slots::new(slots);
-    let cased = Slots::empty(alloc);
-    let rest = Slots::empty(alloc);
-    Value::Rec(RecValue::new(fields, None, cased, rest))
+    Value::Rec(RecValue::of_fields(fields))
 }
 
 /// A record value of the literal `l` under the tag `t`, whose case has the field `a`.
@@ -81,7 +77,7 @@ pub fn of_case<'a>(rt: &impl Abort, alloc: Global, value: Value<'a>) -> Value<'a
     let fields = Slots::empty(alloc);
     let rest = Slots::empty(alloc);
     let tag = (Text::lent(b"t"), Text::lent(b"l"));
-    Value::Rec(RecValue::new(fields, Some(tag), cased, rest))
+    Value::Rec(RecValue::new(alloc, fields, Some(tag), cased, rest).expect(rt, MEMORY))
 }
 
 /// A node of this body.

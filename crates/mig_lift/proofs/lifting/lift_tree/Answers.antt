@@ -5,7 +5,11 @@ use Rattle.mig_small.specs.Rule.{act}
 use Rattle.mig_model.specs.Place.{place}
 use Rattle.mig_model.specs.Family.{IsFormed}
 use Rattle.mig_small.specs.Small.{rule_of, chain_of, open_record, family_with, Ascend}
-use Rattle.mig_lift.specs.Lift.{version_tree, lift_tree}
+use Rattle.std.specs.Prelude.{IsSome}
+use Rattle.mig_model.specs.Version.{strip, put, spot}
+use Rattle.mig_schema.specs.Version.{version_tree}
+use Rattle.mig_lift.specs.Lift.{lift_tree}
+use Rattle.mig_lift.proofs.Edits.{map_is_spot}
 use Rattle.mig_lift.specs.View.{Checks}
 use Rattle.mig_lift.specs.Writable.{IsWritable}
 use Rattle.mig_lift.proofs.Outcome.{refused_version, refused_below, refused_above, refused_by, lifted, ascends_at, formed_at}
@@ -13,7 +17,7 @@ use Rattle.mig_lift.proofs.Written.{removed_written, due_written, lifted_written
 use Rattle.mig_lift.proofs.InForm.{in_form}
 use Rattle.mig_lift.proofs.Decoded.{passed_tree}
 use Rattle.mig_lift.proofs.lifting.lift_tree.Goals as goal
-use Rattle.mig_lift.proofs.lifting.lift_tree.Goals.{In_ok-put}
+use Rattle.mig_lift.proofs.lifting.lift_tree.Goals.{After-drop-path-inside-2}
 use Rattle.mig_lift.proofs.lifting.lift_tree.Given.{Over}
 
 pub returns-in-Err-clause-lifts : goal.returns-in-Err-clause-lifts
@@ -41,8 +45,8 @@ pub read_by_schema-requires-clause-form : goal.read_by_schema-requires-clause-fo
 read_by_schema-requires-clause-form g c =
     let s = c.args.chain.now in
     let t = plain_of c.args.tree in
-    let after : plain_of c.take_out.new.tree ≡ removed s.version t = c.take_out.ensures.rest ∙ ap (λ n. removed n t) c.version_name.ensures in
-    in_form s.form (plain_of c.take_out.new.tree) (subst (IsWritable s.form) (sym after) (removed_written s.form s.version t c.requires.writable))
+    let after : plain_of c.strip_version.new.tree ≡ removed s.version t = c.strip_version.ensures.rest ∙ ap (λ p. strip p t) c.in_ok-path.ensures in
+    in_form s.form (plain_of c.strip_version.new.tree) (subst (IsWritable s.form) (sym after) (removed_written s.form s.version t c.requires.writable))
 
 pub returns-in_err-tree-clause-lifts : goal.returns-in_err-tree-clause-lifts
 returns-in_err-tree-clause-lifts g c =
@@ -50,23 +54,29 @@ returns-in_err-tree-clause-lifts g c =
     let t = plain_of c.args.tree in
     let v = c.in-Ok.version in
     let e = c.in_err-tree.field-0.0 in
-    let after : plain_of c.take_out.new.tree ≡ removed s.version t = c.take_out.ensures.rest ∙ ap (λ n. removed n t) c.version_name.ensures in
-    let here : Checks (Err e) (family_with s (cond (nat_lt v s.second) s.before s.after)) (plain_of c.take_out.new.tree) =
-    subst (λ fs. Checks (Err e) (family_with s fs) (plain_of c.take_out.new.tree)) c.fields_at.ensures c.in_err-tree.ensures.checks in
-    passed_tree e c.from_residual.result (lift_tree (chain_of s) c.args.target t) c.from_residual.ensures
+    let after : plain_of c.strip_version.new.tree ≡ removed s.version t = c.strip_version.ensures.rest ∙ ap (λ p. strip p t) c.in_ok-path.ensures in
+    let here : Checks (Err e) (family_with s (cond (nat_lt v s.second) s.before s.after)) (plain_of c.strip_version.new.tree) =
+    subst (λ fs. Checks (Err e) (family_with s fs) (plain_of c.strip_version.new.tree)) c.fields_at.ensures c.in_err-tree.ensures.checks in
+    passed_tree e c.from_residual-in_err-tree.result (lift_tree (chain_of s) c.args.target t) c.from_residual-in_err-tree.ensures
     (refused_by s c.keeps.ensures c.args.target t v (sym c.version_of.ensures ∙ c.in-Ok.is)
     (omega (arith, c.if-version-first.false, c.first.ensures)) (omega (arith, c.if-target-version.false)) c.requires.map (nat_lt v s.second) refl e
     (subst (λ u. Checks (Err e) (family_with s (cond (nat_lt v s.second) s.before s.after)) u) after here))
 
 -- the tree that was read is the one without the version name
-read_is : (g : Over) (c : In_ok-put g) → plain_of c.in_ok-tree.tree ≡ removed c.args.chain.now.version (plain_of c.args.tree)
-read_is g c = c.in_ok-tree.ensures.checks.0 ∙ c.take_out.ensures.rest ∙ ap (λ n. removed n (plain_of c.args.tree)) c.version_name.ensures
+read_is : (g : Over) (c : After-drop-path-inside-2 g) → plain_of c.in_ok-tree.tree ≡ removed c.args.chain.now.version (plain_of c.args.tree)
+read_is g c = c.in_ok-tree.ensures.checks.0 ∙ c.strip_version.ensures.rest ∙ ap (λ p. strip p (plain_of c.args.tree)) c.in_ok-path.ensures
 
-target_put : (g : Over) (c : In_ok-put g) → plain_of c.put.new.self ≡ put_in c.args.chain.now.version (version_tree c.args.chain.now.form c.args.target) (plain_of c.fix_if.new.tree)
+target_put : (g : Over) (c : After-drop-path-inside-2 g) → plain_of c.put.new.tree ≡ put_in c.args.chain.now.version (version_tree c.args.chain.now.form c.args.target) (plain_of c.fix_if.new.tree)
 target_put g c =
     c.in_ok-put.ensures.ok
-    ∙ ap (λ n. put_in n (plain_of c.version_tree-number.result) (plain_of c.fix_if.new.tree)) (c.lent.ensures ∙ c.bytes.ensures ∙ c.version_name-2.ensures)
-    ∙ ap (λ u. put_in c.args.chain.now.version u (plain_of c.fix_if.new.tree)) (c.version_tree-number.ensures ∙ ap (λ f. version_tree f c.args.target) c.form.ensures)
+    ∙ ap (λ p. put p (version_tree c.form.result c.args.target) (plain_of c.fix_if.new.tree)) c.in_ok-path.ensures
+    ∙ ap (λ f. put_in c.args.chain.now.version (version_tree f c.args.target) (plain_of c.fix_if.new.tree)) c.form.ensures
+
+pub version_of-requires : goal.version_of-requires
+version_of-requires g c = c.in_ok-path.ensures
+
+pub put-requires-clause-spot : goal.put-requires-clause-spot
+put-requires-clause-spot g c = subst (λ p. IsSome (spot p (plain_of c.fix_if.new.tree))) (sym c.in_ok-path.ensures) (map_is_spot c.args.chain.now.version (plain_of c.fix_if.new.tree) c.in_ok-fix_if.ensures.map)
 
 pub returns-clause-lifts : goal.returns-clause-lifts
 returns-clause-lifts g c =
@@ -74,9 +84,9 @@ returns-clause-lifts g c =
     let t = plain_of c.args.tree in
     let v = c.in-Ok.version in
     let fields = cond (nat_lt v s.second) s.before s.after in
-    let after : plain_of c.take_out.new.tree ≡ removed s.version t = c.take_out.ensures.rest ∙ ap (λ n. removed n t) c.version_name.ensures in
+    let after : plain_of c.strip_version.new.tree ≡ removed s.version t = c.strip_version.ensures.rest ∙ ap (λ p. strip p t) c.in_ok-path.ensures in
     let right : place (family_with s fields) s.root (removed s.version t) ≡ None =
-    subst (λ u. place (family_with s fields) s.root u ≡ None) after (subst (λ fs. place (family_with s fs) s.root (plain_of c.take_out.new.tree) ≡ None) c.fields_at.ensures c.in_ok-tree.ensures.checks.1) in
+    subst (λ u. place (family_with s fields) s.root u ≡ None) after (subst (λ fs. place (family_with s fs) s.root (plain_of c.strip_version.new.tree) ≡ None) c.fields_at.ensures c.in_ok-tree.ensures.checks.1) in
     lifted s c.keeps.ensures c.args.target t v (sym c.version_of.ensures ∙ c.in-Ok.is)
     (omega (arith, c.if-version-first.false, c.first.ensures)) (omega (arith, c.if-target-version.false)) c.requires.map (nat_lt v s.second) refl right
     ∙ ap (λ u. Ok (put_in s.version (version_tree s.form c.args.target) u, v))
@@ -89,7 +99,7 @@ returns-clause-writable g c =
     let s = c.args.chain.now in
     let t = plain_of c.args.tree in
     let before_fix : IsWritable s.form (plain_of c.in_ok-tree.tree) = subst (IsWritable s.form) (sym (read_is g c)) (removed_written s.form s.version t c.requires.writable) in
-    let is_map : IsMap (plain_of c.in_ok-tree.tree) = subst IsMap (sym c.in_ok-tree.ensures.checks.0) c.take_out.ensures.map in
+    let is_map : IsMap (plain_of c.in_ok-tree.tree) = subst IsMap (sym c.in_ok-tree.ensures.checks.0) c.strip_version.ensures.map in
     let after_fix : IsWritable s.form (plain_of c.fix_if.new.tree) =
     subst (IsWritable s.form) (sym c.in_ok-fix_if.ensures.fixed) (due_written s c.keeps.ensures c.is_due.result (plain_of c.in_ok-tree.tree) is_map before_fix) in
     subst (IsWritable s.form) (sym (target_put g c)) (lifted_written s c.keeps.ensures c.args.target (plain_of c.fix_if.new.tree) c.in_ok-fix_if.ensures.map after_fix)

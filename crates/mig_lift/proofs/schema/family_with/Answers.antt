@@ -13,5 +13,5 @@ want_of_memory-requires c =
     let items = c.in_ok-push.ensures.items ∙ ap (λ l. l ++ (c.in_ok-copy.field-0, c.in_ok-record.record) ∷ []) c.new-types.ensures.items in
     let types : named_all c.push.new.self.items ≡ (s.root, open_record fs) ∷ [] =
     ap named_all items ∙ one_type c.in_ok-copy.field-0 s.root (template_of c.in_ok-record.record) (open_record fs) (c.in_ok-copy.ensures ∙ c.root.ensures) c.in_ok-record.ensures in
-    memory_only s fs c.form.result c.in_ok-version.version (named_all c.push.new.self.items) c.in_ok-root.root c.in-Err.fault c.requires.formed c.form.ensures (c.in_ok-version.ensures ∙ c.version_name.ensures) types
+    memory_only s fs c.form.result c.in_ok-version.version (named_all c.push.new.self.items) c.in_ok-root.root c.in-Err.fault c.requires.formed c.form.ensures c.in_ok-version.ensures types
     (c.in_ok-root.ensures ∙ c.root-2.ensures) c.in-Err.ensures.fault

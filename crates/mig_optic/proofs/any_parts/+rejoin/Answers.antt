@@ -21,13 +21,13 @@ rejoin_any-rejoin_any-requires t c =
 pub rejoin_each-rejoin_any-requires : goal.rejoin_each-rejoin_any-requires
 rejoin_each-rejoin_any-requires t c =
     let gives = c.into_iter-group-iterator.ensures.into_iter_gives in
-    let turn = YieldsList-turn (YieldsList-from_vec {s = c.into_iter-group-iterator.result} c.args.groups.items gives.0 (gives.1 ∙ c.args.groups.ok.0)) c.loop-group.yielded c.loop-group.group-iterator c.loop-group.yielded_by c.next.result c.next.new.self c.in-Some.group c.in-Some.is c.next.ensures.steps in
+    let turn = YieldsList-turn (YieldsList-from_vec {s = c.into_iter-group-iterator.result} c.args.groups.items gives.0 (◌∙◌ {b = c.args.groups.len} gives.1 c.args.groups.ok.0)) c.loop-group.yielded c.loop-group.group-iterator c.loop-group.yielded_by c.next.result c.next.new.self c.in-Some.group c.in-Some.is c.next.ensures.steps in
     let small = smaller group_pair c.args.groups.items (length c.loop-group.yielded) c.in-Some.group turn.0 turn.1 in
     (omega (arith, c.decreases, small), front_fits group_pair c.args.groups.items _ _ c.loop-group.reversed.items c.in_ok-front.front.items (length c.loop-group.yielded) c.in-Some.group turn.0 turn.1 c.in_ok-front.ensures.front c.loop-group.invariant)
 
 pub rejoin_each-loop-group-preserved : goal.rejoin_each-loop-group-preserved
 rejoin_each-loop-group-preserved t c =
     let gives = c.into_iter-group-iterator.ensures.into_iter_gives in
-    let turn = YieldsList-turn (YieldsList-from_vec {s = c.into_iter-group-iterator.result} c.args.groups.items gives.0 (gives.1 ∙ c.args.groups.ok.0)) c.loop-group.yielded c.loop-group.group-iterator c.loop-group.yielded_by c.next.result c.next.new.self c.in-Some.group c.in-Some.is c.next.ensures.steps in
+    let turn = YieldsList-turn (YieldsList-from_vec {s = c.into_iter-group-iterator.result} c.args.groups.items gives.0 (◌∙◌ {b = c.args.groups.len} gives.1 c.args.groups.ok.0)) c.loop-group.yielded c.loop-group.group-iterator c.loop-group.yielded_by c.next.result c.next.new.self c.in-Some.group c.in-Some.is c.next.ensures.steps in
     rejoins_next group_pair c.args.groups.items _ c.loop-group.values.items c.push.new.self.items c.loop-group.reversed.items c.take_front.new.reversed.items c.in_ok-front.front.items c.in_ok-rejoin_any.field-0 (length c.loop-group.yielded) _ c.in-Some.group turn.0 turn.1
     (length_more c.loop-group.yielded c.in-Some.group) c.in_ok-push.ensures.items c.in_ok-front.ensures.back c.in_ok-front.ensures.front c.in_ok-rejoin_any.ensures c.loop-group.invariant

@@ -1,6 +1,6 @@
 use Rattle.std.proofs.Common.{◌-◌, length}
 use Rattle.mig_schema.proofs.Reached.{Searched}
-use Rattle.mig_schema.proofs.parts.Parts.reaches.Given as goal
+use Rattle.mig_schema.proofs.parts.Parts.reached.Given as goal
 
 abbrev pub invariant-loop-at : goal.invariant-loop-at
 invariant-loop-at l = Searched l.self l.from l.found.keys l.at

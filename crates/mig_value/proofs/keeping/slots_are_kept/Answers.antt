@@ -4,7 +4,7 @@ use Rattle.mig_value.specs.Typed.{slots_of}
 use Rattle.mig_value.specs.Kept.{IsKept, SlotsKept}
 use Rattle.mig_value.specs.View.{typed_of, slot_of}
 use Rattle.mig_value.specs.declared.slots.Slot.{Slot}
-use Rattle.mig_value.proofs.keeping.keep_slots.Goals as goal
+use Rattle.mig_value.proofs.keeping.slots_are_kept.Goals as goal
 
 keeps_more : (xs : List Slot) (s : Slot) → SlotsKept (slots_of (map slot_of xs)) → IsKept (typed_of s.value) → SlotsKept (slots_of (map slot_of (xs ++ s ∷ [])))
 keeps_more [] s k h = (h, tt)

@@ -4,7 +4,7 @@ use Rattle.mig_value.specs.Typed.{items_of}
 use Rattle.mig_value.specs.Kept.{IsKept, ItemsKept}
 use Rattle.mig_value.specs.View.{typed_of}
 use Rattle.mig_value.specs.declared.value.Value.{Value}
-use Rattle.mig_value.proofs.keeping.keep_items.Goals as goal
+use Rattle.mig_value.proofs.keeping.are_kept.Goals as goal
 
 keeps_more : (xs : List Value) (v : Value) → ItemsKept (items_of (map typed_of xs)) → IsKept (typed_of v) → ItemsKept (items_of (map typed_of (xs ++ v ∷ [])))
 keeps_more [] v k h = (h, tt)

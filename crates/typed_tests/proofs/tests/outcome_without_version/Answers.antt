@@ -12,4 +12,4 @@ pub read_alone-requires-clause-form : goal.read_alone-requires-clause-form
 read_alone-requires-clause-form c =
     let tree = plain_of c.in_ok-tree.tree in
     let json : c.args.family.now.form ≡ F.Json = search rules in
-    (λ i. is_in_form (json i) (c.strip.ensures.rest i)) ∙ strip_of_form F.Json c.version_path.result.now tree (json_form tree c.in_ok-tree.ensures.json)
+    (λ i. is_in_form (json i) (c.strip-version.ensures.rest i)) ∙ strip_of_form F.Json c.version_path.result.now tree (json_form tree c.in_ok-tree.ensures.json)

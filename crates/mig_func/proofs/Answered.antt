@@ -15,7 +15,8 @@ use Rattle.mig_action.specs.FieldFn.{FieldFn}
 use Rattle.mig_action.specs.NewRecord.{new_record}
 use Rattle.mig_action.specs.Act.{act}
 use Rattle.mig_action.specs.Moves.{apply}
-use Rattle.mig_action.specs.Nodes.{nodes_at, nodes_named}
+use Rattle.mig_action.specs.Nodes.{nodes_at}
+use Rattle.mig_value.specs.Nodes.{Test, nodes}
 use Rattle.mig_action.specs.Laws.{Applies}
 use Rattle.mig_action.proofs.Laws.{tree_acts, shape_stays, fit_stays, nodes_stay, no_more_nodes}
 use Rattle.mig_action.proofs.Settings.{some-there}
@@ -43,5 +44,5 @@ module _ (f : FieldFn) (p : template.RecordParts) (u : Typed) (v w : value.Recor
   pub nodes_are : (r : template.RecordParts) → new_record f p ≡ Some r → AllByRecursion (Contains (nodes_at (template.record_of p) u)) (nodes_at (template.record_of r) (value.record_of w))
   nodes_are r e = along (λ x y. AllByRecursion (Contains (nodes_at (template.record_of p) x)) (nodes_at (template.record_of r) y)) (nodes_stay f p r v (applies r e))
 
-  pub count_is : is_some (new_record f p) ≡ true → (n : List ℕ) → nodes_named n (value.record_of w) ≤ nodes_named n u
-  count_is fits n = let r = some-there (new_record f p) fits in along (λ x y. nodes_named n y ≤ nodes_named n x) (no_more_nodes f p r.0 v (applies r.0 r.1) n)
+  pub count_is : is_some (new_record f p) ≡ true → (q : Test) → nodes q (value.record_of w) ≤ nodes q u
+  count_is fits q = let r = some-there (new_record f p) fits in along (λ x y. nodes q y ≤ nodes q x) (no_more_nodes f p r.0 v (applies r.0 r.1) q)

@@ -34,7 +34,7 @@ ordered_itself (c ∷ cs) h = (refl, order_itself c.1 h.0, ordered_itself cs h.1
 
 choice_itself : (c : Option Cases) → CasesAscend c → IsChoiceOf c c
 choice_itself None h = tt
-choice_itself (Some c) h = (refl, (c.1, (ordered_itself c.1 h.1, order_itself c.1 h.0)))
+choice_itself (Some c) h = (refl, (c.1, (ordered_itself c.1 h.1, order_itself c.1 h.0)), refl)
 
 -- ---- the common fields
 pub common_made : (p r : RecordParts) (es : List Field) → RecordKept p → IsRecordOf es p.choice p.rest r → HasFields common p es r
@@ -48,25 +48,25 @@ last_ordered [] (d ∷ ds) l es h = (d.1, h.1)
 last_ordered (c ∷ cs) [] l es h = absurd h
 last_ordered (c ∷ cs) (d ∷ ds) l es h = last_ordered cs ds l es h.2
 
-pub more_ordered : (tag : List ℕ) (cs : List Case) (l : List ℕ) (es : List Field) (c : Option Cases) → IsChoiceOf (with_more tag cs (l, es)) c → (fs : List Field) × IsOrderOf es fs
-more_ordered tag cs l es None h = absurd h
-more_ordered tag cs l es (Some c) h = last_ordered cs h.1.0 l es h.1.1.0
+pub more_ordered : (g : Cases) (cs : List Case) (l : List ℕ) (es : List Field) (c : Option Cases) → IsChoiceOf (with_more g cs (l, es)) c → (fs : List Field) × IsOrderOf es fs
+more_ordered g cs l es None h = absurd h
+more_ordered g cs l es (Some c) h = last_ordered cs h.1.0 l es h.1.1.0
 
 -- the record with one case more, in order
-pub more_made : (p r : RecordParts) (tag : List ℕ) (cs : List Case) (l : List ℕ) (es fs : List Field) → RecordKept p → Ascends cs → AllByRecursion (λ (d : Case). Ascends d.1) cs → has l cs ≡ false
-    → IsOrderOf es fs → IsRecordOf p.fields (with_more tag cs (l, es)) p.rest r → r ≡ record p { choice = Some (tag, put l fs cs) }
-more_made p r tag cs l es fs k s all apart o h =
-    one_record p.fields p.fields (with_more tag cs (l, es)) p.rest r (record p { choice = Some (tag, put l fs cs) }) (IsPermutation-refl p.fields) h (record {
+pub more_made : (p r : RecordParts) (g : Cases) (cs : List Case) (l : List ℕ) (es fs : List Field) → RecordKept p → Ascends cs → AllByRecursion (λ (d : Case). Ascends d.1) cs → has l cs ≡ false
+    → IsOrderOf es fs → IsRecordOf p.fields (with_more g cs (l, es)) p.rest r → r ≡ record p { choice = Some (g.0, put l fs cs, g.2) }
+more_made p r g cs l es fs k s all apart o h =
+    one_record p.fields p.fields (with_more g cs (l, es)) p.rest r (record p { choice = Some (g.0, put l fs cs, g.2) }) (IsPermutation-refl p.fields) h (record {
       fields = order_itself p.fields k.0.fields;
-      choice = (refl, (cs ++ (l, fs) ∷ [], (ordered_more cs cs (l, es) (l, fs) (ordered_itself cs all) refl o, order_all cs ((l, fs) ∷ []) s refl (or_false (has l cs) ∙ apart))));
+      choice = (refl, (cs ++ (l, fs) ∷ [], (ordered_more cs cs (l, es) (l, fs) (ordered_itself cs all) refl o, order_all cs ((l, fs) ∷ []) s refl (or_false (has l cs) ∙ apart))), refl);
       rest_is = refl;
     })
 
 -- with one case more, names are there twice exactly where that case makes them so
-pub more_twice : (fields : List Field) (tag : List ℕ) (cs : List Case) (l : List ℕ) (es : List Field) → Ascends cs → has l cs ≡ false → has_twice (tag ∷ keys_of fields) ≡ false → list_any (has_twice_in (tag ∷ keys_of fields)) cs ≡ false
-    → is_twice_named fields (with_more tag cs (l, es)) ≡ has_twice_in (tag ∷ keys_of fields) (l, es)
-more_twice fields tag cs l es s apart once none =
-    let Q = λ (d : Case). has_twice_in (tag ∷ keys_of fields) d in
+pub more_twice : (fields : List Field) (g : Cases) (cs : List Case) (l : List ℕ) (es : List Field) → Ascends cs → has l cs ≡ false → has_twice (g.0 ∷ keys_of fields) ≡ false → list_any (has_twice_in (g.0 ∷ keys_of fields)) cs ≡ false
+    → is_twice_named fields (with_more g cs (l, es)) ≡ has_twice_in (g.0 ∷ keys_of fields) (l, es)
+more_twice fields g cs l es s apart once none =
+    let Q = λ (d : Case). has_twice_in (g.0 ∷ keys_of fields) d in
     let here : list_any Q (cs ++ (l, es) ∷ []) ≡ Q (l, es) = list_any-append Q cs ((l, es) ∷ []) ∙ (λ i. none i || or_false (Q (l, es)) i) in
     let order : IsOrderOf (cs ++ (l, es) ∷ []) (put l es cs) = order_all cs ((l, es) ∷ []) s refl (or_false (has l cs) ∙ apart) in
     let keys : has_twice (keys_of (cs ++ (l, es) ∷ [])) ≡ false = keys_moved (cs ++ (l, es) ∷ []) (put l es cs) order.same ∙ once_if_ascends (put l es cs) order.ascend in
@@ -106,21 +106,21 @@ cases_are p c k is = by (subst (λ (o : Option Cases). IsRecord p.fields o) is k
         record { ascend = h.cases.0; each = h.cases.1; tag = a.0; none = b.0 }
 
 -- ---- other fields in a case
-pub case_made : (p r : RecordParts) (c : Cases) (l : List ℕ) (es : List Field) → RecordKept p → p.choice ≡ Some c → IsRecordOf p.fields (with_more c.0 (without l c.1) (l, es)) p.rest r → HasFields (in_case l) p es r
+pub case_made : (p r : RecordParts) (c : Cases) (l : List ℕ) (es : List Field) → RecordKept p → p.choice ≡ Some c → IsRecordOf p.fields (with_more c (without l c.1) (l, es)) p.rest r → HasFields (in_case l) p es r
 case_made p r c l es k is h =
     let a = cases_are p c k is in
-    let o = more_ordered c.0 (without l c.1) l es r.choice h.choice in
-    let made : r ≡ record p { choice = Some (c.0, put l o.0 (without l c.1)) } =
-    more_made p r c.0 (without l c.1) l es o.0 k (ascends-without l c.1 a.ascend) (all_without l c.1 a.each) (ap is_some (gone l c.1 a.ascend)) o.1 h in (
+    let o = more_ordered c (without l c.1) l es r.choice h.choice in
+    let made : r ≡ record p { choice = Some (c.0, put l o.0 (without l c.1), c.2) } =
+    more_made p r c (without l c.1) l es o.0 k (ascends-without l c.1 a.ascend) (all_without l c.1 a.each) (ap is_some (gone l c.1 a.ascend)) o.1 h in (
       o.0,
       o.1,
       made
-          ∙ (λ i. record p { choice = Some (c.0, put-without l o.0 c.1 a.ascend i) })
-          ∙ (λ i. record p { choice = option_map (λ d. (d.0, put l o.0 d.1)) (sym is i) }),
+          ∙ (λ i. record p { choice = Some (c.0, put-without l o.0 c.1 a.ascend i, c.2) })
+          ∙ (λ i. record p { choice = option_map (λ d. (d.0, put l o.0 d.1, d.2)) (sym is i) }),
     )
 
-pub case_twice : (p : RecordParts) (c : Cases) (l : List ℕ) (es : List Field) → RecordKept p → p.choice ≡ Some c → is_twice_named p.fields (with_more c.0 (without l c.1) (l, es)) ≡ has_clash (taken_by_rest p) es
+pub case_twice : (p : RecordParts) (c : Cases) (l : List ℕ) (es : List Field) → RecordKept p → p.choice ≡ Some c → is_twice_named p.fields (with_more c (without l c.1) (l, es)) ≡ has_clash (taken_by_rest p) es
 case_twice p c l es k is =
     let a = cases_are p c k is in
-    more_twice p.fields c.0 (without l c.1) l es (ascends-without l c.1 a.ascend) (ap is_some (gone l c.1 a.ascend)) a.tag (any_without (has_twice_in (c.0 ∷ keys_of p.fields)) l c.1 a.none)
+    more_twice p.fields c (without l c.1) l es (ascends-without l c.1 a.ascend) (ap is_some (gone l c.1 a.ascend)) a.tag (any_without (has_twice_in (c.0 ∷ keys_of p.fields)) l c.1 a.none)
     ∙ case_clash p c es is a.tag

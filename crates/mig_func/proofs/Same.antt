@@ -9,7 +9,7 @@ use Rattle.mig_model.specs.declared.rest.Rest.{Rest}
 use Rattle.mig_model.specs.declared.rest.Rest.TheVariants.{Open, Closed}
 use Rattle.mig_model.specs.Template.{Template, leaf, any, list, point, rec, sum, Fields, no_field, field, Choice, no_choice, choice, Cases, no_case, case, same_name, same_kind}
 use Rattle.mig_action.proofs.Same.{same_is}
-use Rattle.mig_action.specs.SameTemplate.{same_presence, same_rest, same_template, same_fields, same_choice, same_cases}
+use Rattle.mig_action.specs.SameTemplate.{same_presence, same_rest, same_kept, same_template, same_fields, same_choice, same_cases}
 use Rattle.mig_laws.proofs.Tests.{same_name_itself}
 
 both : (a b : Bool) → a ≡ true → b ≡ true → (a && b) ≡ true
@@ -27,6 +27,10 @@ presence_itself May = refl
 rest_itself : (r : Rest) → same_rest r r ≡ true
 rest_itself Open = refl
 rest_itself Closed = refl
+
+kept_itself : (k : Bool) → same_kept k k ≡ true
+kept_itself true = refl
+kept_itself false = refl
 
 mutual
   pub itself : (V : Template) → same_template V V ≡ true
@@ -46,7 +50,7 @@ mutual
 
   choice_itself : (c : Choice) → same_choice c c ≡ true
   choice_itself no_choice = refl
-  choice_itself (choice m cs) = both (same_name m m) (same_cases cs cs) (same_name_itself m) (cases_itself cs)
+  choice_itself (choice m cs k) = both (same_name m m) (same_cases cs cs && same_kept k k) (same_name_itself m) (both (same_cases cs cs) (same_kept k k) (cases_itself cs) (kept_itself k))
 
   cases_itself : (cs : Cases) → same_cases cs cs ≡ true
   cases_itself no_case = refl

@@ -59,9 +59,9 @@ taken_by_choice c n = is_in_choice n (choice_of c)
 abbrev pub taken_by_rest : RecordParts → List ℕ → Bool
 taken_by_rest p n = has n p.fields || is_tag n p.choice
 
--- a choice of these cases and one more
-abbrev pub with_more : List ℕ → List Case → Case → Option Cases
-with_more tag cs d = Some (tag, cs ++ d ∷ [])
+-- the choice with these cases and one more in place of its own
+abbrev pub with_more : Cases → List Case → Case → Option Cases
+with_more c cs d = Some (c.0, cs ++ d ∷ [], c.2)
 
 -- an operation on the cases themselves
 abbrev pub is_about_cases : FieldOp → Bool

@@ -18,7 +18,8 @@ ghost use Rattle.mig_template.specs.View.{template_of};
 ghost use Rattle.mig_action.specs.NewRecord.{new_record, inner_fields};
 ghost use Rattle.mig_action.specs.Act.{act, left_kind};
 ghost use Rattle.mig_action.specs.Moves.{move, fill_value, apply, is_literal};
-ghost use Rattle.mig_action.specs.Nodes.{nodes_at, nodes_named};
+ghost use Rattle.mig_action.specs.Nodes.{nodes_at};
+ghost use Rattle.mig_value.specs.Nodes.{Test, nodes};
 ghost use Rattle.mig_func.specs.Ready.{IsReady, fields_within, tag_after, common_after, cased_after, in_common, in_cased};
 ghost use Rattle.mig_func.specs.View.{fill_of, field_op_of, field_fn_of};
 
@@ -96,13 +97,18 @@ fn fields_within<'b>(fields: &'b Fields, name: &Name) -> Option<&'b Fields>
 }
 
 /// Moves the fields of the record under the name out of it.
-fn unnest_field<'a>(moving: Moving<'a>, name: &Name, fields: &Fields) -> Result<Moving<'a>, Memory>
+fn unnest_field<'a>(
+    alloc: Global,
+    moving: Moving<'a>,
+    name: &Name,
+    fields: &Fields,
+) -> Result<Moving<'a>, Memory>
     requires ordered { IsOrdered (moving_of moving) }
     requires ready { IsReady (action.unnest name.now) fields.now (moving_of moving) }
     ensures { IfOk result (λ m. moving_of m ≡ move (action.unnest name.now) fields.now (moving_of moving.entry)) }
 {
     match fields_within(fields, name) {
-        Some(inner) => unnest(moving, name, inner),
+        Some(inner) => unnest(alloc, moving, name, inner),
         None => Ok(moving),
     }
 }
@@ -128,7 +134,7 @@ impl FieldOp {
             FieldOp::Default(name, fill) => fill_absent(moving, name, fill.value(alloc)),
             FieldOp::Map(name, function) => map_leaf(alloc, moving, name, function),
             FieldOp::Nest(names, name) => nest(alloc, moving, names, name),
-            FieldOp::Unnest(name) => unnest_field(moving, name, fields),
+            FieldOp::Unnest(name) => unnest_field(alloc, moving, name, fields),
             FieldOp::Wrap(name) => wrap(alloc, moving, name),
             FieldOp::Unify(name, first, second) => {
                 unify(alloc, moving, name, left_kind(fields, name), first, second)
@@ -170,7 +176,7 @@ impl FieldOp {
         requires parts { IsRecord (common_after (field_op_of self.now) fields.now given) }
         ensures { IfOk result (λ w. w ≡ common_after (field_op_of self.now) fields.now given.entry) }
     {
-        let (known, tag, cased, rest) = given.into_parts();
+        let (known, tag, cased, rest) = given.into_parts(alloc);
         let moving = Moving {
             slots: known.into_vec(),
             rest: rest.into_vec(),
@@ -179,7 +185,7 @@ impl FieldOp {
         let tag = self.new_tag(tag);
         let known = Slots::new(slots);
         let rest = Slots::new(rest);
-        Ok(RecValue::new(known, tag, cased, rest))
+        RecValue::new(alloc, known, tag, cased, rest)
     }
 
     /// A record value after a function on the fields of its case.
@@ -193,7 +199,7 @@ impl FieldOp {
         requires parts { IsRecord (cased_after (field_op_of self.now) fields.now given) }
         ensures { IfOk result (λ w. w ≡ cased_after (field_op_of self.now) fields.now given.entry) }
     {
-        let (known, tag, cased, rest) = given.into_parts();
+        let (known, tag, cased, rest) = given.into_parts(alloc);
         let moving = Moving {
             slots: cased.into_vec(),
             rest: rest.into_vec(),
@@ -201,7 +207,7 @@ impl FieldOp {
         let Moving { slots, rest } = self.move_slots(alloc, fields, moving)?;
         let cased = Slots::new(slots);
         let rest = Slots::new(rest);
-        Ok(RecValue::new(known, tag, cased, rest))
+        RecValue::new(alloc, known, tag, cased, rest)
     }
 }
 
@@ -282,7 +288,7 @@ impl FieldFn {
         ensures shape { IfOk result (λ w. (r : template.RecordParts) → new_record (field_fn_of self.now) on.now ≡ Some r → Shape (template.record_of r) (typed_of w)) }
         ensures fit { IfOk result (λ w. (r : template.RecordParts) → new_record (field_fn_of self.now) on.now ≡ Some r → (form : Form) (body : List ℕ → plain.Template) → Fits (IsOfForm form) (Fit form body) (template.record_of on.now) (typed_of value.entry) → IsOfForm form (typed_of value.entry) → Fits (IsOfForm form) (Fit form body) (template.record_of r) (typed_of w)) }
         ensures nodes { IfOk result (λ w. (r : template.RecordParts) → new_record (field_fn_of self.now) on.now ≡ Some r → AllByRecursion (Contains (nodes_at (template.record_of on.now) (typed_of value.entry))) (nodes_at (template.record_of r) (typed_of w))) }
-        ensures count { IfOk result (λ w. (x : List ℕ) → nodes_named x (typed_of w) ≤ nodes_named x (typed_of value.entry)) }
+        ensures count { IfOk result (λ w. (q : Test) → nodes q (typed_of w) ≤ nodes q (typed_of value.entry)) }
     {
         on.keeps();
         match value {

@@ -57,14 +57,14 @@ pub fn cases_but(
 fn copy_choice(
     alloc: Global,
     on: &Record,
-) -> Result<Option<(Name, Vec<(Name, Vec<Field>)>)>, Memory>
+) -> Result<Option<(Name, Vec<(Name, Vec<Field>)>, bool)>, Memory>
     ensures { IfOk result (λ c. given_choice c ≡ on.now.choice) }
 {
     match on.choice() {
         Some(choice) => {
             let tag = choice.tag().copy(alloc)?;
             let cases = copy_cases(alloc, choice)?;
-            Ok(Some((tag, cases)))
+            Ok(Some((tag, cases, choice.kept())))
         }
         None => Ok(None),
     }
@@ -74,7 +74,7 @@ fn copy_choice(
 pub fn record_of(
     alloc: Global,
     fields: Vec<Field>,
-    choice: Option<(Name, Vec<(Name, Vec<Field>)>)>,
+    choice: Option<(Name, Vec<(Name, Vec<Field>)>, bool)>,
     rest: Rest,
 ) -> Result<Record, FuncFault>
     requires { has_no_case (given_choice choice) ≡ false }
@@ -101,23 +101,24 @@ pub fn with_common(alloc: Global, on: &Record, list: Vec<Field>) -> Result<Recor
     record_of(alloc, list, choice, on.rest())
 }
 
-/// The record with these cases and one more in place of its own.
+/// The record with these cases and one more in place of those of its choice.
 pub fn with_more(
     alloc: Global,
     on: &Record,
-    tag: &Name,
+    choice: &Choice,
     mut cases: Vec<(Name, Vec<Field>)>,
     literal: Name,
     list: Vec<Field>,
 ) -> Result<Record, FuncFault>
-    ensures made { IfOk result (IsRecordOf on.now.fields (with_more tag.now (map given_case cases.items) (literal, map field_of list.items)) on.now.rest) }
-    ensures once { IfOk result (λ r. is_twice_named on.now.fields (with_more tag.now (map given_case cases.items) (literal, map field_of list.items)) ≡ false) }
-    ensures misfit { IfErr result (λ e. IsFault e (is_twice_named on.now.fields (with_more tag.now (map given_case cases.items) (literal, map field_of list.items)) ≡ true)) }
+    ensures made { IfOk result (IsRecordOf on.now.fields (with_more choice.now (map given_case cases.items) (literal, map field_of list.items)) on.now.rest) }
+    ensures once { IfOk result (λ r. is_twice_named on.now.fields (with_more choice.now (map given_case cases.items) (literal, map field_of list.items)) ≡ false) }
+    ensures misfit { IfErr result (λ e. IsFault e (is_twice_named on.now.fields (with_more choice.now (map given_case cases.items) (literal, map field_of list.items)) ≡ true)) }
 {
-    let tag = tag.copy(alloc)?;
+    let tag = choice.tag().copy(alloc)?;
     let fields = on.fields().copy(alloc)?.into_vec();
     cases.push((literal, list))?;
-    record_of(alloc, fields, Some((tag, cases)), on.rest())
+    let choice = Some((tag, cases, choice.kept()));
+    record_of(alloc, fields, choice, on.rest())
 }
 
 /// The record with other fields in the case of the literal.
@@ -136,5 +137,5 @@ pub fn with_case(
     on.keeps();
     let name = literal.copy(alloc)?;
     let cases = cases_but(alloc, choice, literal.bytes())?;
-    with_more(alloc, on, choice.tag(), cases, name, list)
+    with_more(alloc, on, choice, cases, name, list)
 }

@@ -1,4 +1,4 @@
-ghost use Rattle.std.specs.Prelude.{◌≡◌, Some, None, true, map, IfOk, IfErr};
+ghost use Rattle.std.specs.Prelude.{◌≡◌, Some, None, true, false, map, IfOk, IfErr};
 ghost use Rattle.mig_action.specs.FieldFn.{common, retag, add_case};
 ghost use Rattle.mig_action.specs.NewRecord.{new_by};
 ghost use Rattle.mig_template.specs.Parts.{found_case};
@@ -25,6 +25,7 @@ fn retag_case(
     requires same { on.now.choice ≡ Some choice.now }
     requires found { found_case from.now on.now.choice ≡ Some fields.now }
     requires apart { found_case to.now on.now.choice ≡ None }
+    requires closed { choice.now.2 ≡ false }
     ensures made { IfOk result (λ r. new_by (retag from.now to.now) common on.now ≡ Some r) }
     ensures misfit { IfErr result (λ e. IsFault e (new_by (retag from.now to.now) common on.now ≡ None)) }
 {
@@ -32,10 +33,10 @@ fn retag_case(
     let list = fields.copy(alloc)?.into_vec();
     let literal = to.copy(alloc)?;
     let cases = cases_but(alloc, choice, from.bytes())?;
-    with_more(alloc, on, choice.tag(), cases, literal, list)
+    with_more(alloc, on, choice, cases, literal, list)
 }
 
-/// The same, where the first literal has a case and the second has none.
+/// The same, where the first literal has a case and the second has none, and unknown tags aren't kept.
 pub fn retagged(alloc: Global, on: &Record, from: &Name, to: &Name) -> Result<Record, FuncFault>
     ensures made { IfOk result (λ r. new_by (retag from.now to.now) common on.now ≡ Some r) }
     ensures misfit { IfErr result (λ e. IsFault e (new_by (retag from.now to.now) common on.now ≡ None)) }
@@ -43,6 +44,9 @@ pub fn retagged(alloc: Global, on: &Record, from: &Name, to: &Name) -> Result<Re
     let Some(choice) = on.choice() else {
         return Err(FuncFault::Misfit);
     };
+    if choice.kept() {
+        return Err(FuncFault::Misfit);
+    }
     let Some(fields) = on.case(from.bytes()) else {
         return Err(FuncFault::Misfit);
     };
@@ -75,6 +79,7 @@ fn add_case(
     requires same { on.now.choice ≡ Some choice.now }
     requires apart { found_case literal.now on.now.choice ≡ None }
     requires clear { are_clear (map field_of fields.now) ≡ true }
+    requires closed { choice.now.2 ≡ false }
     ensures made { IfOk result (λ r. new_by (add_case literal.now (map field_of fields.now)) common on.now ≡ Some r) }
     ensures misfit { IfErr result (λ e. IsFault e (new_by (add_case literal.now (map field_of fields.now)) common on.now ≡ None)) }
 {
@@ -82,10 +87,10 @@ fn add_case(
     let list = copy_fields(alloc, fields)?;
     let name = literal.copy(alloc)?;
     let cases = copy_cases(alloc, choice)?;
-    with_more(alloc, on, choice.tag(), cases, name, list)
+    with_more(alloc, on, choice, cases, name, list)
 }
 
-/// The same, where there is a choice, the literal has no case and the sums of the fields are clear.
+/// The same, where there is a choice that keeps no unknown tags, the literal has no case and the sums of the fields are clear.
 pub fn with_new_case(
     alloc: Global,
     on: &Record,
@@ -98,6 +103,9 @@ pub fn with_new_case(
     let Some(choice) = on.choice() else {
         return Err(FuncFault::Misfit);
     };
+    if choice.kept() {
+        return Err(FuncFault::Misfit);
+    }
     if !are_clear(fields) {
         return Err(FuncFault::Misfit);
     }

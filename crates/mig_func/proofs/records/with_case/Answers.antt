@@ -17,8 +17,8 @@ returns-clause-made c =
     let es : List Field = map field_of c.args.list.items in
     let cs : List Case = map given_case c.in_ok-cases.cases.items in
     let same : cs ≡ without l ch.1 = c.in_ok-cases.ensures ∙ ap (λ n. without n ch.1) c.bytes.ensures in
-    let given : Option Cases = with_more c.tag.result.now cs (c.in_ok-name.name, es) in
-    let is : given ≡ with_more ch.0 (without l ch.1) (l, es) = λ i. with_more (c.tag.ensures i) (same i) (c.in_ok-name.ensures i, es) in
+    let given : Option Cases = with_more ch cs (c.in_ok-name.name, es) in
+    let is : given ≡ with_more ch (without l ch.1) (l, es) = λ i. with_more ch (same i) (c.in_ok-name.ensures i, es) in
     ok_map c.with_more.result (λ r. IsRecordOf p.fields given p.rest r) (λ r. HasFields (in_case l) p es r)
     (λ r h. case_made p r ch l es c.keeps.ensures c.requires (subst (λ o. IsRecordOf p.fields o p.rest r) is h))
     c.with_more.ensures.made
@@ -31,8 +31,8 @@ returns-clause-once c =
     let es : List Field = map field_of c.args.list.items in
     let cs : List Case = map given_case c.in_ok-cases.cases.items in
     let same : cs ≡ without l ch.1 = c.in_ok-cases.ensures ∙ ap (λ n. without n ch.1) c.bytes.ensures in
-    let given : Option Cases = with_more c.tag.result.now cs (c.in_ok-name.name, es) in
-    let is : given ≡ with_more ch.0 (without l ch.1) (l, es) = λ i. with_more (c.tag.ensures i) (same i) (c.in_ok-name.ensures i, es) in
+    let given : Option Cases = with_more ch cs (c.in_ok-name.name, es) in
+    let is : given ≡ with_more ch (without l ch.1) (l, es) = λ i. with_more ch (same i) (c.in_ok-name.ensures i, es) in
     ok_map c.with_more.result (λ r. is_twice_named p.fields given ≡ false) (λ r. has_clash (taken_by_rest p) es ≡ false)
     (λ r h. sym (case_twice p ch l es c.keeps.ensures c.requires) ∙ ap (is_twice_named p.fields) (sym is) ∙ h) c.with_more.ensures.once
 
@@ -44,7 +44,7 @@ returns-clause-misfit c =
     let es : List Field = map field_of c.args.list.items in
     let cs : List Case = map given_case c.in_ok-cases.cases.items in
     let same : cs ≡ without l ch.1 = c.in_ok-cases.ensures ∙ ap (λ n. without n ch.1) c.bytes.ensures in
-    let given : Option Cases = with_more c.tag.result.now cs (c.in_ok-name.name, es) in
-    let is : given ≡ with_more ch.0 (without l ch.1) (l, es) = λ i. with_more (c.tag.ensures i) (same i) (c.in_ok-name.ensures i, es) in
+    let given : Option Cases = with_more ch cs (c.in_ok-name.name, es) in
+    let is : given ≡ with_more ch (without l ch.1) (l, es) = λ i. with_more ch (same i) (c.in_ok-name.ensures i, es) in
     fault_map c.with_more.result (is_twice_named p.fields given ≡ true) (has_clash (taken_by_rest p) es ≡ true)
     (λ h. sym (case_twice p ch l es c.keeps.ensures c.requires) ∙ ap (is_twice_named p.fields) (sym is) ∙ h) c.with_more.ensures.misfit

@@ -20,10 +20,10 @@ returns-clause-made c =
     let none : under b ch.1 ≡ None = ap (found_case b) (sym c.requires.same) ∙ c.requires.apart in
     let cs : List Case = map given_case c.in_ok-cases.cases.items in
     let es : List Field = map field_of c.in_ok-list.list.items in
-    let given : Option Cases = with_more c.tag.result.now cs (c.in_ok-name.name, es) in
-    let is : given ≡ with_more ch.0 ch.1 (b, fs) = λ i. with_more (c.tag.ensures i) (c.in_ok-cases.ensures i) (c.in_ok-name.ensures i, c.in_ok-list.ensures i) in
+    let given : Option Cases = with_more ch cs (c.in_ok-name.name, es) in
+    let is : given ≡ with_more ch ch.1 (b, fs) = λ i. with_more ch (c.in_ok-cases.ensures i) (c.in_ok-name.ensures i, c.in_ok-list.ensures i) in
     ok_map2 c.with_more.result (λ r. IsRecordOf p.fields given p.rest r) (λ r. is_twice_named p.fields given ≡ false) (λ r. new_by (add_case b fs) common p ≡ Some r)
-    (λ r h once. new_case_made p r ch b fs c.keeps.ensures c.requires.same (ap is_some none) c.requires.clear (ap (is_twice_named p.fields) (sym is) ∙ once) (subst (λ o. IsRecordOf p.fields o p.rest r) is h))
+    (λ r h once. new_case_made p r ch b fs c.keeps.ensures c.requires.same (ap is_some none) c.requires.clear c.requires.closed (ap (is_twice_named p.fields) (sym is) ∙ once) (subst (λ o. IsRecordOf p.fields o p.rest r) is h))
     c.with_more.ensures.made c.with_more.ensures.once
 
 pub returns-clause-misfit : goal.returns-clause-misfit
@@ -35,7 +35,7 @@ returns-clause-misfit c =
     let none : under b ch.1 ≡ None = ap (found_case b) (sym c.requires.same) ∙ c.requires.apart in
     let cs : List Case = map given_case c.in_ok-cases.cases.items in
     let es : List Field = map field_of c.in_ok-list.list.items in
-    let given : Option Cases = with_more c.tag.result.now cs (c.in_ok-name.name, es) in
-    let is : given ≡ with_more ch.0 ch.1 (b, fs) = λ i. with_more (c.tag.ensures i) (c.in_ok-cases.ensures i) (c.in_ok-name.ensures i, c.in_ok-list.ensures i) in
+    let given : Option Cases = with_more ch cs (c.in_ok-name.name, es) in
+    let is : given ≡ with_more ch ch.1 (b, fs) = λ i. with_more ch (c.in_ok-cases.ensures i) (c.in_ok-name.ensures i, c.in_ok-list.ensures i) in
     fault_map c.with_more.result (is_twice_named p.fields given ≡ true) (new_by (add_case b fs) common p ≡ None)
     (λ h. new_case_twice p ch b fs c.keeps.ensures c.requires.same (ap is_some none) (ap (is_twice_named p.fields) (sym is) ∙ h)) c.with_more.ensures.misfit

@@ -24,10 +24,10 @@ returns-clause-made c =
     let same : cs ≡ without a ch.1 = c.in_ok-cases.ensures ∙ ap (λ n. without n ch.1) c.bytes.ensures in
     let es : List Field = map field_of c.into_vec-list.result.items in
     let copied : es ≡ fs = c.into_vec-list.ensures.fields ∙ c.in_ok-copy.ensures in
-    let given : Option Cases = with_more c.tag.result.now cs (c.in_ok-literal.literal, es) in
-    let is : given ≡ with_more ch.0 (without a ch.1) (b, fs) = λ i. with_more (c.tag.ensures i) (same i) (c.in_ok-literal.ensures i, copied i) in
+    let given : Option Cases = with_more ch cs (c.in_ok-literal.literal, es) in
+    let is : given ≡ with_more ch (without a ch.1) (b, fs) = λ i. with_more ch (same i) (c.in_ok-literal.ensures i, copied i) in
     ok_map c.with_more.result (λ r. IsRecordOf p.fields given p.rest r) (λ r. new_by (retag a b) common p ≡ Some r)
-    (λ r h. retag_made p r ch a b fs c.keeps.ensures c.requires.same there (ap is_some none) (subst (λ o. IsRecordOf p.fields o p.rest r) is h))
+    (λ r h. retag_made p r ch a b fs c.keeps.ensures c.requires.same there (ap is_some none) c.requires.closed (subst (λ o. IsRecordOf p.fields o p.rest r) is h))
     c.with_more.ensures.made
 
 pub returns-clause-misfit : goal.returns-clause-misfit
@@ -43,7 +43,7 @@ returns-clause-misfit c =
     let same : cs ≡ without a ch.1 = c.in_ok-cases.ensures ∙ ap (λ n. without n ch.1) c.bytes.ensures in
     let es : List Field = map field_of c.into_vec-list.result.items in
     let copied : es ≡ fs = c.into_vec-list.ensures.fields ∙ c.in_ok-copy.ensures in
-    let given : Option Cases = with_more c.tag.result.now cs (c.in_ok-literal.literal, es) in
-    let is : given ≡ with_more ch.0 (without a ch.1) (b, fs) = λ i. with_more (c.tag.ensures i) (same i) (c.in_ok-literal.ensures i, copied i) in
+    let given : Option Cases = with_more ch cs (c.in_ok-literal.literal, es) in
+    let is : given ≡ with_more ch (without a ch.1) (b, fs) = λ i. with_more ch (same i) (c.in_ok-literal.ensures i, copied i) in
     fault_map c.with_more.result (is_twice_named p.fields given ≡ true) (new_by (retag a b) common p ≡ None)
     (λ h. absurd (retag_never p ch a b fs c.keeps.ensures c.requires.same there (ap is_some none) (ap (is_twice_named p.fields) (sym is) ∙ h))) c.with_more.ensures.misfit

@@ -248,7 +248,12 @@ fn the_version_path_counts(rt: HostRuntime) {
     let alloc = rt.alloc();
     let types = ["p int .a .e .d"];
     let first = family_at(&rt, alloc, Form::Nbt, b"dv", &types).expect(&rt, "no family");
-    let table: [(&[u8], bool); 4] = [(b"dv", true), (b"v", false), (b"dw", false), (b"dev", false)];
+    let table: [(&[u8], bool); 4] = [
+        (b"dv", true),
+        (b"v", false),
+        (b"dw", false),
+        (b"dev", false),
+    ];
     for (version, want) in table {
         let other = family_at(&rt, alloc, Form::Nbt, version, &types).expect(&rt, "no family");
         assert_eq!(rt; first.same(&other), want);

@@ -115,7 +115,12 @@ fn musts(rt: &impl Abort, alloc: Global, may: &[u8], must: &[u8]) -> usize {
 
 #[test]
 fn fields_that_have_to_be_there_are_counted(rt: HostRuntime) {
-    let table: [(&[u8], &[u8], usize); 4] = [(b"", b"", 0), (b"ab", b"", 0), (b"b", b"ca", 2), (b"", b"abc", 3)];
+    let table: [(&[u8], &[u8], usize); 4] = [
+        (b"", b"", 0),
+        (b"ab", b"", 0),
+        (b"b", b"ca", 2),
+        (b"", b"abc", 3),
+    ];
     for (may, must, want) in table {
         assert_eq!(rt; musts(&rt, rt.alloc(), may, must), want);
     }

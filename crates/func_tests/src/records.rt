@@ -9,7 +9,7 @@ use std::test::Fail;
 struct Builder {
     made: Vec<Template>,
     fields: Vec<Field>,
-    choice: Option<(Name, Vec<(Name, Vec<Field>)>)>,
+    choice: Option<(Name, Vec<(Name, Vec<Field>)>, bool)>,
 }
 
 /// A field of the template.
@@ -56,13 +56,24 @@ impl Builder {
     fn add_case(&mut self, alloc: Global, tag: &[u8], literal: &[u8]) -> Result<(), Fail> {
         let fields = self.take_fields(alloc);
         let literal = Name::new(alloc, literal)?;
-        let (tag, mut cases) = match self.choice.take() {
+        let (tag, mut cases, kept) = match self.choice.take() {
             Some(choice) => choice,
-            None => (Name::new(alloc, tag)?, Vec::new(alloc)),
+            None => (Name::new(alloc, tag)?, Vec::new(alloc), false),
         };
         cases.push((literal, fields))?;
-        self.choice = Some((tag, cases));
+        self.choice = Some((tag, cases, kept));
         Ok(())
+    }
+
+    /// Keeps unknown tags in the choice that stands there.
+    fn keep_unknown(&mut self) -> Result<(), Fail> {
+        match self.choice.take() {
+            Some((tag, cases, _)) => {
+                self.choice = Some((tag, cases, true));
+                Ok(())
+            }
+            None => Err("no choice")?,
+        }
     }
 
     /// The record of what stands there.
@@ -93,7 +104,7 @@ impl Builder {
     }
 
     /// One word: a leaf kind or `any`; `list`, which takes a template; `or`, which takes two; `.x` and `?x` for a field, which has to be or may be there; `=ts`,
-    /// which makes the fields before it those of the case `s` of the tag `t`; `open` and `closed`, which make a record of what stands before them.
+    /// which makes the fields before it those of the case `s` of the tag `t`; `kept`, which keeps that choice's unknown tags; `open` and `closed`, which make a record of what stands before them.
     fn word(&mut self, alloc: Global, word: &[u8]) -> Result<(), Fail> {
         match word {
             b"whole" => self.push(Template::Leaf(Kind::Whole)),
@@ -107,6 +118,7 @@ impl Builder {
                 let sum = self.sum(alloc)?;
                 self.push(sum)
             }
+            b"kept" => self.keep_unknown(),
             b"open" => {
                 let record = self.record(alloc, Rest::Open)?;
                 self.push(Template::Rec(record))

@@ -10,7 +10,7 @@ use crate::functions::function;
 use crate::records::template;
 use crate::shown::show;
 use mig_func::{FieldFn, FuncFault};
-use mig_schema::{Family, Form, Name, Template};
+use mig_schema::{Family, Form, Name, Template, VersionPath};
 use mig_template::Record;
 use mig_tree::{Memory, Steps, Tree};
 use mig_value::Value;
@@ -68,7 +68,8 @@ fn written<'a>(alloc: Global, value: Value<'a>) -> Result<Tree<'a>, Memory> {
 fn family_of(alloc: Global, body: Template) -> Result<Family, Fail> {
     let mut types = Vec::new(alloc);
     types.push((Name::new(alloc, b"p")?, body))?;
-    let version = Name::new(alloc, b"DataVersion")?;
+    let name = Name::new(alloc, b"DataVersion")?;
+    let version = VersionPath::new(vec![in alloc; name]?).ok_or("no path")?;
     let root = Name::new(alloc, b"p")?;
     Ok(Family::new(alloc, Form::Json, version, types, root)?)
 }
@@ -343,6 +344,22 @@ fn choices_change(rt: HostRuntime) -> Result<(), Fail> {
                 "-",
             ),
             ("=ta closed", "a", "retag a b", r#"{"t":"a"}"#, "-"),
+            ("=ta kept closed", "", "retag a b", r#"{"t":"a"}"#, "-"),
+            ("=ta kept closed", "", "addcase b x", r#"{"t":"a"}"#, "-"),
+            (
+                "whole .y =ta whole .x kept closed",
+                "",
+                "rename x z",
+                r#"{"k":2,"t":"q","x":1,"y":3}"#,
+                r#"{"k":2,"t":"q","y":3,"z":1,}"#,
+            ),
+            (
+                "whole .y =ta kept closed",
+                "a",
+                "rename y z",
+                r#"{"t":"q","y":3}"#,
+                r#"{"t":"q","y":3,}"#,
+            ),
         ],
     )
 }

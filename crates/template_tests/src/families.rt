@@ -1,5 +1,5 @@
 //! The faults of a family are told, and what is asked of a family is answered.
-use crate::words::{MEMORY, name, template};
+use crate::words::{MEMORY, name, path, template};
 use mig_schema::{Family, Form, Name, SchemaFault, Template};
 use std::alloc::Global;
 use std::process::Abort;
@@ -11,30 +11,42 @@ fn named(rt: &impl Abort, alloc: Global, text: &str) -> (Name, Template) {
     (name, template(rt, alloc, words))
 }
 
-/// The family of these types, with the version name `v` and the root `p`.
+/// The family of these types, with the version under these names of one byte each and the root `p`.
 fn made(
     rt: &impl Abort,
     alloc: Global,
     form: Form,
+    version: &[u8],
     types: Vec<(Name, Template)>,
 ) -> Result<Family, SchemaFault> {
-    let version = name(rt, alloc, b"v");
+    let version = path(rt, alloc, version);
     let root = name(rt, alloc, b"p");
     Family::new(alloc, form, version, types, root)
 }
 
 /// The same of types that are written as words.
-fn family(
+fn family_at(
     rt: &impl Abort,
     alloc: Global,
     form: Form,
+    version: &[u8],
     texts: &[&str],
 ) -> Result<Family, SchemaFault> {
     let mut types = Vec::new(alloc);
     for text in texts {
         types.push(named(rt, alloc, text)).expect(rt, MEMORY);
     }
-    made(rt, alloc, form, types)
+    made(rt, alloc, form, version, types)
+}
+
+/// The family of these types, with the version name `v`.
+fn family(
+    rt: &impl Abort,
+    alloc: Global,
+    form: Form,
+    texts: &[&str],
+) -> Result<Family, SchemaFault> {
+    family_at(rt, alloc, form, b"v", texts)
 }
 
 /// What is wrong with the family of these types, if anything is.
@@ -95,6 +107,37 @@ fn each_fault_is_told(rt: HostRuntime) {
 }
 
 #[test]
+fn each_fault_of_a_version_path_is_told(rt: HostRuntime) {
+    let wrong = Some(SchemaFault::VersionPath);
+    let used = Some(SchemaFault::VersionNameUsed);
+    let none = Some(SchemaFault::RootNotRecord);
+    let table: [(&[u8], &[&str], Option<SchemaFault>); 18] = [
+        (b"v", &["p int .a"], None),
+        (b"v", &["p int .v"], used),
+        (b"dv", &["p int .a .d"], None),
+        (b"dv", &["p int .v .d"], used),
+        (b"dv", &["p int =vxa .d"], used),
+        (b"dv", &["p int =txv .d"], used),
+        (b"dv", &["p int .a ?d"], wrong),
+        (b"dv", &["p int .a .e"], wrong),
+        (b"dv", &["p int .a =txd"], wrong),
+        (b"dv", &["p int .d"], wrong),
+        (b"dv", &["p @d .d", "d int .a"], None),
+        (b"dv", &["p @d .d", "d int .v"], used),
+        (b"dv", &["p @d .d", "d int"], wrong),
+        (b"dv", &["p int"], none),
+        (b"dev", &["p int .a .e .d"], None),
+        (b"dev", &["p @d .d", "d @e .e", "e int .v"], used),
+        (b"dev", &["p int .a ?e .d"], wrong),
+        (b"dev", &["p int .e .d"], wrong),
+    ];
+    for (version, types, want) in table {
+        let family = family_at(&rt, rt.alloc(), Form::Nbt, version, types);
+        assert_eq!(rt; family.err(), want);
+    }
+}
+
+#[test]
 fn the_first_of_two_faults_is_told(rt: HostRuntime) {
     let table: [(&[&str], SchemaFault); 6] = [
         (&["p @p", "p @p"], SchemaFault::TwiceNamed),
@@ -140,11 +183,22 @@ fn the_number_of_types_is_limited(rt: HostRuntime) {
         (514, Some(SchemaFault::TwiceNamed)),
     ] {
         let types = numbered(&rt, rt.alloc(), count);
-        assert_eq!(rt; made(&rt, rt.alloc(), Form::Json, types).err(), want);
+        assert_eq!(rt; made(&rt, rt.alloc(), Form::Json, b"v", types).err(), want);
     }
 }
 
-/// Both names are of the family, and whether the first reaches the second is as wanted.
+/// Whether the name is that of the type at one of the places.
+fn is_at_one(family: &Family, places: &[usize], name: &Name) -> bool {
+    for place in places {
+        match family.name_at(*place) {
+            Some(other) if other.bytes() == name.bytes() => return true,
+            _ => {}
+        }
+    }
+    false
+}
+
+/// Both names are of the family, and whether the first reaches the second is as wanted, asked in both ways.
 fn check_reach(
     rt: &impl Abort,
     alloc: Global,
@@ -158,6 +212,8 @@ fn check_reach(
     assert!(rt; family.is_named(&to));
     let reached = family.reaches(alloc, &from, &to).expect(rt, MEMORY);
     assert_eq!(rt; reached, want);
+    let places = family.reached(alloc, &from).expect(rt, MEMORY);
+    assert_eq!(rt; is_at_one(family, places.as_slice(), &to), want);
 }
 
 #[test]
@@ -184,6 +240,23 @@ fn names_reach_what_their_points_reach(rt: HostRuntime) {
         for (from, to, want) in table {
             check_reach(&rt, rt.alloc(), &family, from, to, want);
         }
+    }
+}
+
+#[test]
+fn the_version_path_counts(rt: HostRuntime) {
+    let alloc = rt.alloc();
+    let types = ["p int .a .e .d"];
+    let first = family_at(&rt, alloc, Form::Nbt, b"dv", &types).expect(&rt, "no family");
+    let table: [(&[u8], bool); 4] = [
+        (b"dv", true),
+        (b"v", false),
+        (b"dw", false),
+        (b"dev", false),
+    ];
+    for (version, want) in table {
+        let other = family_at(&rt, alloc, Form::Nbt, version, &types).expect(&rt, "no family");
+        assert_eq!(rt; first.same(&other), want);
     }
 }
 

@@ -1,4 +1,4 @@
-//! Tests of templates: the parts that make a record, the faults of a family, and the places that the finder finds.
+//! Tests of templates: the parts that make a record, the faults of a family, versions under a path, and the places that the finder finds.
 #![tactic(auto)]
 
 #[cfg(test)]
@@ -7,5 +7,7 @@ mod families;
 mod places;
 #[cfg(test)]
 mod records;
+#[cfg(test)]
+mod versions;
 #[cfg(test)]
 mod words;

@@ -24,6 +24,7 @@ fn record(
     alloc: Global,
     common: &[u8],
     cases: &[&[u8]],
+    kept: bool,
 ) -> Result<Record, RecordFault> {
     let mut given = Vec::new(alloc);
     for case in cases {
@@ -34,7 +35,7 @@ fn record(
     }
     let common = fields(rt, alloc, common);
     let tag = name(rt, alloc, b"t");
-    Record::new(alloc, common, Some((tag, given)), Rest::Closed)
+    Record::new(alloc, common, Some((tag, given, kept)), Rest::Closed)
 }
 
 /// The names of the common fields in order, of a copy of the record.
@@ -57,7 +58,7 @@ fn check(
     cases: &[&[u8]],
     want: Result<&[u8], RecordFault>,
 ) {
-    match record(rt, alloc, common, cases) {
+    match record(rt, alloc, common, cases, false) {
         Ok(record) => {
             let names = names_of_copy(rt, alloc, &record);
             assert_eq!(rt; Ok(names.as_slice()), want);
@@ -81,6 +82,47 @@ fn parts_give_a_record_or_a_fault(rt: HostRuntime) {
     ];
     for (common, cases, want) in table {
         check(&rt, rt.alloc(), common, cases, want);
+    }
+}
+
+/// Two records that differ, if at all, in what they do with unknown tags are equal where they don't.
+fn check_kept(rt: &impl Abort, alloc: Global, one: bool, other: bool) {
+    let first = record(rt, alloc, b"a", &[b"xp"], one).expect(rt, "no record");
+    let second = record(rt, alloc, b"a", &[b"xp"], other).expect(rt, "no record");
+    assert_eq!(rt; first.same(&second), one == other);
+    let choice = first.choice().expect(rt, "no choice");
+    assert_eq!(rt; choice.kept(), one);
+}
+
+#[test]
+fn unknown_tags_are_kept_or_not(rt: HostRuntime) {
+    for (one, other) in [(true, true), (true, false), (false, true), (false, false)] {
+        check_kept(&rt, rt.alloc(), one, other);
+    }
+}
+
+/// How many of the fields of these names have to be there, where those of the first names may be absent.
+fn musts(rt: &impl Abort, alloc: Global, may: &[u8], must: &[u8]) -> usize {
+    let mut list = fields(rt, alloc, may);
+    for field in &mut list {
+        field.presence = Presence::May;
+    }
+    let mut others = fields(rt, alloc, must);
+    list.append(&mut others).expect(rt, MEMORY);
+    let record = Record::new(alloc, list, None, Rest::Open).expect(rt, "no record");
+    record.fields().musts()
+}
+
+#[test]
+fn fields_that_have_to_be_there_are_counted(rt: HostRuntime) {
+    let table: [(&[u8], &[u8], usize); 4] = [
+        (b"", b"", 0),
+        (b"ab", b"", 0),
+        (b"b", b"ca", 2),
+        (b"", b"abc", 3),
+    ];
+    for (may, must, want) in table {
+        assert_eq!(rt; musts(&rt, rt.alloc(), may, must), want);
     }
 }
 

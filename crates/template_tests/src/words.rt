@@ -1,4 +1,5 @@
 //! Templates by words. Want of memory and a word that isn't known end the test at once, so that no template is let go on the way.
+use mig_schema::VersionPath;
 use mig_template::{Field, Kind, Name, Presence, Record, Rest, Template, TemplateBox};
 use std::alloc::Global;
 use std::process::Abort;
@@ -8,6 +9,15 @@ pub const MEMORY: &str = "out of memory";
 
 pub fn name(rt: &impl Abort, alloc: Global, bytes: &[u8]) -> Name {
     Name::new(alloc, bytes).expect(rt, MEMORY)
+}
+
+/// The path of these names, of one byte each.
+pub fn path(rt: &impl Abort, alloc: Global, bytes: &[u8]) -> VersionPath {
+    let mut names = Vec::new(alloc);
+    for byte in bytes {
+        names.push(name(rt, alloc, &[*byte])).expect(rt, MEMORY);
+    }
+    VersionPath::new(names).expect(rt, "no path")
 }
 
 /// The list of one field of the template.
@@ -37,7 +47,7 @@ fn with_fields(rt: &impl Abort, alloc: Global, fields: Vec<Field>) -> Template {
 fn with_case(rt: &impl Abort, alloc: Global, tag: u8, literal: u8, fields: Vec<Field>) -> Template {
     let literal = name(rt, alloc, &[literal]);
     let cases = vec![in alloc; (literal, fields)].expect(rt, MEMORY);
-    let choice = Some((name(rt, alloc, &[tag]), cases));
+    let choice = Some((name(rt, alloc, &[tag]), cases, false));
     let record = Record::new(alloc, Vec::new(alloc), choice, Rest::Closed);
     Template::Rec(record.expect(rt, "no record"))
 }

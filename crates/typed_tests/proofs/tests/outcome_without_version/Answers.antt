@@ -1,7 +1,6 @@
-use Rattle.std.proofs.Common.{◌≡◌, ◌∙◌, ap, rules}
+use Rattle.std.proofs.Common.{◌≡◌, ◌∙◌, rules}
 use Rattle.mig_model.specs.declared.form.Form.TheVariants as F
 use Rattle.mig_model.specs.Inhabits.{is_in_form}
-use Rattle.mig_model.specs.Version.{strip}
 use Rattle.mig_tree.specs.View.{plain_of}
 use Rattle.mig_laws.proofs.Versions.{strip_of_form}
 use Rattle.typed_tests.proofs.JsonForm.{json_form}

@@ -21,7 +21,7 @@ use Rattle.mig_action.specs.FieldFn.{Scope, common, in_case, Fill, constant, emp
 use Rattle.mig_model.specs.Leaf.{leaf_value}
 use Rattle.mig_action.specs.Act.{inner_names, left_kind, unified}
 use Rattle.mig_action.specs.Moves.{Moving, move, fill_value, at_leaf, at_side, leaf_of_kind, learned_value, open_record, inner_slots, with_moving, with_moving_case, is_literal, apply_by, apply}
-use Rattle.mig_action.proofs.Orders.{slots_whole}
+use Rattle.mig_value.proofs.Views.{slots_whole}
 
 module _ (x : Test) where
   abbrev pub count : List Slot → ℕ

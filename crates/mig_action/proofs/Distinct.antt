@@ -1,4 +1,4 @@
--- The names of a record, one by one: a common field is no tag and no field of a case, and a case's field is neither.
+-- The names of a record, one by one: a common field is no tag and no field of a case, and a case's field is both_false.
 use Rattle.std.proofs.Common.{◌≡◌, ℕ, List, [], ◌∷◌, ◌++◌, Bool, true, false, true≢false, Option, Some, None, refl, sym, ap, subst, ◌∙◌}
 use Rattle.std.specs.Prelude.{◌||◌, is_some, unwrap_or, if◌then◌else◌}
 use Rattle.std.specs.List.{list_any, AllByRecursion}
@@ -16,12 +16,14 @@ use Rattle.mig_value.specs.Typed.{Typed, Tag}
 use Rattle.mig_value.specs.Parts as value
 use Rattle.mig_value.specs.Parts.{names_in, tag_name}
 use Rattle.mig_value.specs.Fit.{TagFits}
-use Rattle.mig_laws.proofs.Tests.{split_or, same_name_is, same_name_itself}
 use Rattle.mig_action.specs.Edits.{under, has}
 use Rattle.mig_action.specs.NewRecord.{is_tag}
-use Rattle.mig_action.proofs.Edits.{ascends-none}
 use Rattle.mig_action.proofs.Stands.{Stands, IsRest, RecordStands, opened, case_of, has_either, field_is}
 use Rattle.mig_action.proofs.Orders.{among_is}
+use Rattle.mig_model.proofs.Bools.{both_false, split_or}
+use Rattle.std.proofs.lemmas.Bool.{false_from_ne_true}
+use Rattle.mig_model.proofs.Rising.{nothing_ascends}
+use Rattle.mig_model.proofs.SameNames.{same_name_is, same_name_itself}
 
 -- no name of the fields and of the tag's case is used twice
 pub record Distinct (p : RecordParts) (tag : Option Tag) : Type 0 where
@@ -29,14 +31,6 @@ pub record Distinct (p : RecordParts) (tag : Option Tag) : Type 0 where
   pub cased : (n : List ℕ) → has n (case_of p.choice tag) ≡ true → is_tag n p.choice ≡ false
   pub fields_ascend : Ascends p.fields
   pub cased_ascend : Ascends (case_of p.choice tag)
-
-pub neither : (a b : Bool) → a ≡ false → b ≡ false → (a || b) ≡ false
-neither true b k l = absurd (true≢false k)
-neither false b k l = l
-
-pub not_true : (b : Bool) → (b ≡ true → ⊥) → b ≡ false
-not_true true h = absurd (h refl)
-not_true false h = refl
 
 -- a test that holds of none
 none_of : (p : List ℕ → Bool) (ns : List (List ℕ)) → list_any p ns ≡ false → (n : List ℕ) → is_among ns n ≡ true → p n ≡ false
@@ -52,7 +46,7 @@ none_of p (m ∷ ns) h n k =
 -- of names of which none is there twice, none of the first is one of the second
 pub apart_in : (ms ns : List (List ℕ)) → has_twice (ms ++ ns) ≡ false → has_twice ns ≡ false → (n : List ℕ) → is_among ms n ≡ true → is_among ns n ≡ false
 apart_in ms ns h k n a =
-    let once : has_twice ms ≡ false = not_true (has_twice ms) (λ e. true≢false (sym (twice_in_more ms ns e) ∙ h)) in
+    let once : has_twice ms ≡ false = false_from_ne_true (has_twice ms) (λ e. true≢false (sym (twice_in_more ms ns e) ∙ h)) in
     none_of (is_among ns) ms (sym (twice_in_both ms ns once k) ∙ h) n a
 
 case_once : (others : List (List ℕ)) (cs : List template.Case) → list_any (has_twice_in others) cs ≡ false → (l : List ℕ) (ds : List Field) → under l cs ≡ Some ds → has_twice (keys_of ds ++ others) ≡ false
@@ -69,8 +63,8 @@ no_case_field : (others : List (List ℕ)) (cs : List template.Case) → list_an
 no_case_field others [] h k n a = refl
 no_case_field others (c ∷ cs) h k n a =
     let s = split_or (has_twice_in others c) (list_any (has_twice_in others) cs) h in
-    neither (is_field n (_)) (is_case_field n (cases_of cs))
-    (field_is n c.1 ∙ not_true (has n c.1) (λ e. true≢false (sym a ∙ apart_in (keys_of c.1) others s.0 k n (among_is c.1 n ∙ e))))
+    both_false (is_field n (_)) (is_case_field n (cases_of cs))
+    (field_is n c.1 ∙ false_from_ne_true (has n c.1) (λ e. true≢false (sym a ∙ apart_in (keys_of c.1) others s.0 k n (among_is c.1 n ∙ e))))
     (no_case_field others cs s.1 k n a)
 
 module _ (p : RecordParts) (i : IsRecord p.fields p.choice) where
@@ -83,8 +77,8 @@ module _ (p : RecordParts) (i : IsRecord p.fields p.choice) where
           let s = split_or (has_twice (c.0 ∷ keys_of p.fields)) (is_twice_in (c.0 ∷ keys_of p.fields) c.1) k in
           let u = split_or (list_any (has_twice_in (c.0 ∷ keys_of p.fields)) c.1) (has_twice (keys_of c.1)) s.1 in
           let v = split_or (list_any (same_name c.0) (keys_of p.fields)) (has_twice (keys_of p.fields)) s.0 in
-          neither (same_name n c.0) (is_case_field n (cases_of c.1))
-          (not_true (same_name n c.0) (λ e. true≢false (sym h ∙ (ap (λ m. has m p.fields) (same_name_is n c.0 e) ∙ (sym (among_is p.fields c.0) ∙ v.0)))))
+          both_false (same_name n c.0) (is_case_field n (cases_of c.1))
+          (false_from_ne_true (same_name n c.0) (λ e. true≢false (sym h ∙ (ap (λ m. has m p.fields) (same_name_is n c.0 e) ∙ (sym (among_is p.fields c.0) ∙ v.0)))))
           (no_case_field (c.0 ∷ keys_of p.fields) c.1 u.0 s.0 n (or_right (same_name n c.0) (is_among (keys_of p.fields) n) (among_is p.fields n ∙ h)))
         where
           or_right : (a b : Bool) → b ≡ true → (a || b) ≡ true
@@ -102,7 +96,7 @@ module _ (p : RecordParts) (i : IsRecord p.fields p.choice) where
           let u = split_or (list_any (has_twice_in (c.0 ∷ keys_of p.fields)) c.1) (has_twice (keys_of c.1)) s.1 in
           let o = apart_in (keys_of ds) (c.0 ∷ keys_of p.fields) (case_once (c.0 ∷ keys_of p.fields) c.1 u.0 l ds q) s.0 n (among_is ds n ∙ h) in
           let w = split_or (same_name n c.0) (is_among (keys_of p.fields) n) o in
-          neither (has n p.fields) (same_name n c.0) (sym (among_is p.fields n) ∙ w.1) w.0
+          both_false (has n p.fields) (same_name n c.0) (sym (among_is p.fields n) ∙ w.1) w.0
 
   pub case_ascends : (l : List ℕ) (ds : List Field) → found_case l p.choice ≡ Some ds → Ascends ds
   case_ascends l ds e = by p.choice i.cases e
@@ -122,10 +116,10 @@ module _ (p : RecordParts) (i : IsRecord p.fields p.choice) where
   -- what a record keeps, told of the tag's case
   pub distinct_of : (tag : Option Tag) → Distinct p tag
   distinct_of None = record {
-    fields = λ n h. neither (is_tag n p.choice) false (tag_apart n h p.choice (common_apart n h)) refl;
+    fields = λ n h. both_false (is_tag n p.choice) false (tag_apart n h p.choice (common_apart n h)) refl;
     cased = λ n h. absurd (true≢false (sym h));
     fields_ascend = i.fields;
-    cased_ascend = ascends-none (Presence × Template);
+    cased_ascend = nothing_ascends (Presence × Template);
   }
     where
       tag_apart : (n : List ℕ) → has n p.fields ≡ true → (c : Option template.Cases) → is_in_choice n (choice_of c) ≡ false → is_tag n c ≡ false
@@ -139,16 +133,16 @@ module _ (p : RecordParts) (i : IsRecord p.fields p.choice) where
 
       by : (F : Option (List Field)) → found_case t.1 p.choice ≡ F → Distinct p (Some t)
       by None e = record {
-        fields = λ n h. neither (is_tag n p.choice) (has n (case_of p.choice (Some t))) (tag_apart n h p.choice (common_apart n h)) (ap (λ (G : Option (List Field)). has n (unwrap_or G [])) e);
+        fields = λ n h. both_false (is_tag n p.choice) (has n (case_of p.choice (Some t))) (tag_apart n h p.choice (common_apart n h)) (ap (λ (G : Option (List Field)). has n (unwrap_or G [])) e);
         cased = λ n h. absurd (true≢false (sym h ∙ ap (λ (G : Option (List Field)). has n (unwrap_or G [])) e));
         fields_ascend = i.fields;
-        cased_ascend = subst (λ (G : Option (List Field)). Ascends (unwrap_or G [])) (sym e) (ascends-none (Presence × Template));
+        cased_ascend = subst (λ (G : Option (List Field)). Ascends (unwrap_or G [])) (sym e) (nothing_ascends (Presence × Template));
       }
       by (Some ds) e =
           let is : case_of p.choice (Some t) ≡ ds = ap (λ (G : Option (List Field)). unwrap_or G []) e in
           record {
-            fields = λ n h. neither (is_tag n p.choice) (has n (case_of p.choice (Some t))) (tag_apart n h p.choice (common_apart n h))
-                (not_true (has n (case_of p.choice (Some t))) (λ k. true≢false (sym h ∙ (split_or (has n p.fields) (is_tag n p.choice) (case_apart t.1 ds e n (sym (ap (has n) is) ∙ k))).0)));
+            fields = λ n h. both_false (is_tag n p.choice) (has n (case_of p.choice (Some t))) (tag_apart n h p.choice (common_apart n h))
+                (false_from_ne_true (has n (case_of p.choice (Some t))) (λ k. true≢false (sym h ∙ (split_or (has n p.fields) (is_tag n p.choice) (case_apart t.1 ds e n (sym (ap (has n) is) ∙ k))).0)));
             cased = λ n h. (split_or (has n p.fields) (is_tag n p.choice) (case_apart t.1 ds e n (sym (ap (has n) is) ∙ h))).1;
             fields_ascend = i.fields;
             cased_ascend = subst Ascends (sym is) (case_ascends t.1 ds e);
@@ -205,7 +199,7 @@ module _ (U : Typed → Type 0) (P : List ℕ → Typed → Type 0) (p : RecordP
     where
       none : (q : List ℕ → Bool) (ks : List (List ℕ)) → ((n : List ℕ) → is_among ks n ≡ true → q n ≡ false) → list_any q ks ≡ false
       none q [] k = refl
-      none q (m ∷ ks) k = neither (q m) (list_any q ks) (k m (ap (λ b. b || is_among ks m) (same_name_itself m))) (none q ks (λ n e. k n (more (same_name n m) e)))
+      none q (m ∷ ks) k = both_false (q m) (list_any q ks) (k m (ap (λ b. b || is_among ks m) (same_name_itself m))) (none q ks (λ n e. k n (more (same_name n m) e)))
         where
           more : (b : Bool) {c : Bool} → c ≡ true → (b || c) ≡ true
           more true e = refl
@@ -217,7 +211,7 @@ module _ (U : Typed → Type 0) (P : List ℕ → Typed → Type 0) (p : RecordP
     where
       rest_once : has_twice (keys_of v.cased ++ keys_of v.rest) ≡ false
       rest_once = append_once (keys_of v.cased) (keys_of v.rest) (once_if_ascends v.cased vc) (once_if_ascends v.rest vr)
-          (λ n h. among_is v.rest n ∙ not_true (has n v.rest) (λ e. true≢false (sym (cased_there n (sym (among_is v.cased n) ∙ h)) ∙ (split_or (is_tag n p.choice) (has n (case_of p.choice v.tag)) (rest_apart n e).1).1)))
+          (λ n h. among_is v.rest n ∙ false_from_ne_true (has n v.rest) (λ e. true≢false (sym (cased_there n (sym (among_is v.cased n) ∙ h)) ∙ (split_or (is_tag n p.choice) (has n (case_of p.choice v.tag)) (rest_apart n e).1).1)))
 
       tag_alone : has_twice (tag_name v.tag) ≡ false
       tag_alone = by v.tag
@@ -228,18 +222,18 @@ module _ (U : Typed → Type 0) (P : List ℕ → Typed → Type 0) (p : RecordP
 
       tag_once : has_twice (tag_name v.tag ++ (keys_of v.cased ++ keys_of v.rest)) ≡ false
       tag_once = append_once (tag_name v.tag) (keys_of v.cased ++ keys_of v.rest) tag_alone rest_once
-          (λ n h. in_append (keys_of v.cased) (keys_of v.rest) n ∙ neither (is_among (keys_of v.cased) n) (is_among (keys_of v.rest) n)
-          (among_is v.cased n ∙ not_true (has n v.cased) (λ e. true≢false (sym (tag_is n h) ∙ d.cased n (cased_there n e))))
-          (among_is v.rest n ∙ not_true (has n v.rest) (λ e. true≢false (sym (tag_is n h) ∙ (split_or (is_tag n p.choice) (has n (case_of p.choice v.tag)) (rest_apart n e).1).0))))
+          (λ n h. in_append (keys_of v.cased) (keys_of v.rest) n ∙ both_false (is_among (keys_of v.cased) n) (is_among (keys_of v.rest) n)
+          (among_is v.cased n ∙ false_from_ne_true (has n v.cased) (λ e. true≢false (sym (tag_is n h) ∙ d.cased n (cased_there n e))))
+          (among_is v.rest n ∙ false_from_ne_true (has n v.rest) (λ e. true≢false (sym (tag_is n h) ∙ (split_or (is_tag n p.choice) (has n (case_of p.choice v.tag)) (rest_apart n e).1).0))))
 
       fields_apart : (n : List ℕ) → is_among (keys_of v.fields) n ≡ true → is_among (tag_name v.tag ++ (keys_of v.cased ++ keys_of v.rest)) n ≡ false
       fields_apart n h =
           let there : has n p.fields ≡ true = field_there n (sym (among_is v.fields n) ∙ h) in
           let s = split_or (is_tag n p.choice) (has n (case_of p.choice v.tag)) (d.fields n there) in
           in_append (tag_name v.tag) (keys_of v.cased ++ keys_of v.rest) n
-          ∙ neither (is_among (tag_name v.tag) n) (is_among (keys_of v.cased ++ keys_of v.rest) n)
-          (not_true (is_among (tag_name v.tag) n) (λ e. true≢false (sym (tag_is n e) ∙ s.0)))
+          ∙ both_false (is_among (tag_name v.tag) n) (is_among (keys_of v.cased ++ keys_of v.rest) n)
+          (false_from_ne_true (is_among (tag_name v.tag) n) (λ e. true≢false (sym (tag_is n e) ∙ s.0)))
           (in_append (keys_of v.cased) (keys_of v.rest) n
-          ∙ neither (is_among (keys_of v.cased) n) (is_among (keys_of v.rest) n)
-          (among_is v.cased n ∙ not_true (has n v.cased) (λ e. true≢false (sym (cased_there n e) ∙ s.1)))
-          (among_is v.rest n ∙ not_true (has n v.rest) (λ e. true≢false (sym there ∙ (rest_apart n e).0))))
+          ∙ both_false (is_among (keys_of v.cased) n) (is_among (keys_of v.rest) n)
+          (among_is v.cased n ∙ false_from_ne_true (has n v.cased) (λ e. true≢false (sym (cased_there n e) ∙ s.1)))
+          (among_is v.rest n ∙ false_from_ne_true (has n v.rest) (λ e. true≢false (sym there ∙ (rest_apart n e).0))))

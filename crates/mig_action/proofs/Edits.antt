@@ -14,15 +14,14 @@ use Rattle.mig_model.specs.Names.{by_bytes}
 use Rattle.mig_model.specs.Ascends.{Ascends}
 use Rattle.mig_model.specs.Template.{same_name}
 use Rattle.mig_template.specs.Parts.{is_among}
-use Rattle.mig_laws.proofs.Tests.{same_name_is, same_name_itself}
 use Rattle.mig_action.specs.Edits.{under, without, put, bring, put_all, moved, those, others, changed}
+use Rattle.mig_model.proofs.Rising.{nothing_ascends}
+use Rattle.mig_model.proofs.Options.{none_is_some}
+use Rattle.mig_model.proofs.SameNames.{same_name_is, same_name_itself, same_name_flips}
 
 -- ---- names
 pub less_names : (x y z : List ℕ) → by_bytes x y ≡ Less → by_bytes y z ≡ Less → by_bytes x z ≡ Less
 less_names x y z = nat_list_cmp_total.trans x y z
-
-pub not_before_itself : (x : List ℕ) → by_bytes x x ≡ Less → ⊥
-not_before_itself x h = let e = tied_itself nat_list_cmp_total x in cc
 
 -- of two names, one is before the other or they are equal
 pub greater_name : (x y : List ℕ) → by_bytes x y ≡ Greater → by_bytes y x ≡ Less
@@ -30,14 +29,6 @@ greater_name x y h = nat_list_cmp_total.antisymm y x ∙ ap ordering_reverse h
 
 pub less_differs : (x y : List ℕ) → by_bytes x y ≡ Less → same_name x y ≡ false
 less_differs x y h = ap is_eq h
-
-pub flips : (x y : List ℕ) → same_name x y ≡ same_name y x
-flips x y = ap is_eq (nat_list_cmp_total.antisymm x y) ∙ turned (by_bytes y x)
-  where
-    turned : (o : Ordering) → is_eq (ordering_reverse o) ≡ is_eq o
-    turned Less = refl
-    turned Equal = refl
-    turned Greater = refl
 
 pub equal_is : (x y : List ℕ) → by_bytes x y ≡ Equal → x ≡ y
 equal_is x y h = exact_bytes x y h
@@ -107,10 +98,6 @@ pub ascends-cons : {A : Type 0} (e : List ℕ × A) (es : List (List ℕ × A)) 
 unfolding IsStrictlySortedBy
 ascends-cons e es h s = (h, s)
 
-pub ascends-none : (A : Type 0) → Ascends {A = A} []
-unfolding IsStrictlySortedBy
-ascends-none A = tt
-
 pub under-without : {A : Type 0} (x : List ℕ) (es : List (List ℕ × A)) (n : List ℕ) → Ascends es → under n (without x es) ≡ (if same_name n x then None else under n es)
 under-without x [] n s = either_way (same_name n x) None
 under-without {A} x (e ∷ es) n s = by (same_name x e.0) refl (same_name n x) refl (ascends-head e es s) (under-without x es n (ascends-tail e es s))
@@ -145,7 +132,7 @@ under-changed {A} x f (e ∷ es) n = by (same_name n e.0) refl (same_name n x) r
     by : (c : Bool) → same_name n e.0 ≡ c → (b : Bool) → same_name n x ≡ b → under n (changed x f es) ≡ (if b then option_map f (under n es) else under n es)
         → (if c then Some (if same_name x e.0 then f e.1 else e.1) else under n (changed x f es)) ≡ (if b then option_map f (if c then Some e.1 else under n es) else (if c then Some e.1 else under n es))
     by true h true k rest = λ i. Some (if (ap (λ m. same_name m e.0) (sym (same_name_is n x k)) ∙ h) i then f e.1 else e.1)
-    by true h false k rest = λ i. Some (if (flips x e.0 ∙ ap (λ m. same_name m x) (sym (same_name_is n e.0 h)) ∙ k) i then f e.1 else e.1)
+    by true h false k rest = λ i. Some (if (same_name_flips x e.0 ∙ ap (λ m. same_name m x) (sym (same_name_is n e.0 h)) ∙ k) i then f e.1 else e.1)
     by false h true k rest = rest
     by false h false k rest = rest
 
@@ -204,7 +191,7 @@ above-put {A} y x a (e ∷ es) l h = by (by_bytes x e.0) (above-put y x a es l h
     by Greater rest = (h.0, rest)
 
 pub ascends-put : {A : Type 0} (x : List ℕ) (a : A) (es : List (List ℕ × A)) → Ascends es → Ascends (put x a es)
-ascends-put {A} x a [] s = ascends-cons (x, a) [] tt (ascends-none A)
+ascends-put {A} x a [] s = ascends-cons (x, a) [] tt (nothing_ascends A)
 ascends-put {A} x a (e ∷ es) s = by (by_bytes x e.0) refl (ascends-put x a es (ascends-tail e es s))
   where
     by : (o : Ordering) → by_bytes x e.0 ≡ o → Ascends (put x a es) → Ascends (match_ordering o ((x, a) ∷ e ∷ es) ((e.0, a) ∷ es) (e ∷ put x a es))
@@ -283,9 +270,6 @@ put-permutes {A} x a (e ∷ es) h = by (by_bytes x e.0) refl (same_name x e.0) r
 -- ---- two lists whose names ascend are equal where the same stands under each name
 pub under-itself : {A : Type 0} (e : List ℕ × A) (es : List (List ℕ × A)) → under e.0 (e ∷ es) ≡ Some e.1
 under-itself e es = ap (λ b. if b then Some e.1 else under e.0 es) (same_name_itself e.0)
-
-none_is_some : {A : Type 0} (a : A) (o : Option A) → o ≡ Some a → o ≡ None → ⊥
-none_is_some a o h k = let e : Some a ≡ None = sym h ∙ k in cc
 
 pub same_under : {A : Type 0} (xs ys : List (List ℕ × A)) → Ascends xs → Ascends ys → ((n : List ℕ) → under n xs ≡ under n ys) → xs ≡ ys
 same_under [] [] s t h = refl

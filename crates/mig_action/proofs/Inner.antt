@@ -12,10 +12,10 @@ use Rattle.mig_template.specs.Kept as template_kept
 use Rattle.mig_value.specs.Typed.{Typed, Slot, slots_of, out, tag_pair}
 use Rattle.mig_value.specs.Parts as value
 use Rattle.mig_value.specs.Kept as value_kept
-use Rattle.mig_laws.proofs.Tests.{split_and}
 use Rattle.mig_action.specs.Edits.{under}
 use Rattle.mig_action.proofs.Edits.{first}
 use Rattle.mig_action.proofs.Orders.{pairs_of_record, under_record}
+use Rattle.mig_model.proofs.Bools.{split_and}
 
 pub field_kept : (fs : List Field) → template_kept.FieldsKept (fields_of fs) → (x : List ℕ) (f : Presence × Template) → under x fs ≡ Some f → template_kept.IsKept f.1
 field_kept [] k x f e = absurd (let n : None ≡ Some f = e in cc)

@@ -12,7 +12,6 @@ use Rattle.mig_value.specs.Typed.{Typed, out, tag_pair}
 use Rattle.mig_value.specs.Parts as value
 use Rattle.mig_value.specs.Parts.{NodeParts, IsRecord}
 use Rattle.mig_value.specs.Fit.{Fits, Fit, IsOfForm}
-use Rattle.mig_laws.proofs.Tests.{split_or}
 use Rattle.mig_action.specs.Edits.{under, has}
 use Rattle.mig_action.specs.NewRecord.{is_tag}
 use Rattle.mig_action.specs.FieldFn.{FieldFn}
@@ -22,13 +21,16 @@ use Rattle.mig_action.specs.Nodes.{nodes_at}
 use Rattle.mig_action.specs.Laws.{Applies, TreeActs, ShapeStays, FitStays, NodesStay, NoMoreNodes, PartsStay}
 use Rattle.mig_action.proofs.Stands.{Stands, fits_stand, stand_fits, case_of}
 use Rattle.mig_action.proofs.Settings.{none-there}
-use Rattle.mig_action.proofs.Orders.{entries_again, pairs_of_record}
-use Rattle.mig_action.proofs.Distinct.{distinct_of, names_once, not_true}
+use Rattle.mig_action.proofs.Orders.{pairs_of_record}
+use Rattle.mig_action.proofs.Distinct.{distinct_of, names_once}
 use Rattle.mig_action.proofs.Scopes.{Suits, Becomes, tag_under, stands_none}
 use Rattle.mig_action.proofs.Whole.{applied}
 use Rattle.mig_action.proofs.Counts.{applied_counts}
 use Rattle.mig_action.proofs.AtPoints.{Has, listed, given}
 use Rattle.mig_action.proofs.Inner.{field_kept, case_kept, slot_kept, field_form, cased_form}
+use Rattle.std.proofs.lemmas.Bool.{false_from_ne_true}
+use Rattle.mig_model.specs.Kinds.{entries_of_pairs}
+use Rattle.mig_model.proofs.Bools.{split_or}
 
 -- what a value may be at `any`: whatever it is, or a value whose tree is of a form
 module _ (U : Typed → Type 0) (P : List ℕ → Typed → Type 0) (f : FieldFn) (p r : template.RecordParts) (v : value.RecordParts) (a : Applies f p r v)
@@ -64,7 +66,7 @@ module _ (U : Typed → Type 0) (P : List ℕ → Typed → Type 0) (f : FieldFn
       alone : (x : List ℕ) (w : Typed) → under x v.cased ≡ Some w → under x v.fields ≡ None
       alone x w e =
           let no_field : has x p.fields ≡ false =
-          not_true (has x p.fields) (λ k. true≢false (sym (there x w e) ∙ (split_or (is_tag x p.choice) (has x (case_of p.choice v.tag)) ((distinct_of p a.record_kept.0 v.tag).fields x k)).1)) in
+          false_from_ne_true (has x p.fields) (λ k. true≢false (sym (there x w e) ∙ (split_or (is_tag x p.choice) (has x (case_of p.choice v.tag)) ((distinct_of p a.record_kept.0 v.tag).fields x k)).1)) in
           stands_none U P (under x v.fields) (subst (λ F. Stands U P F (under x v.fields)) (none-there (under x p.fields) no_field) ((fits_stand U P p v h).fields x))
 
   becomes : Becomes U P r (apply f p v) (act f p (pairs_of_record v))
@@ -74,7 +76,7 @@ module _ (U : Typed → Type 0) (P : List ℕ → Typed → Type 0) (f : FieldFn
   fits_after = stand_fits U P r (apply f p v) becomes.distinct.fields_ascend becomes.distinct.cased_ascend becomes.fields_ascend becomes.cased_ascend becomes.rest_ascend becomes.stand
 
   pub tree_after : out (value.record_of (apply f p v)) ≡ on_entries (act f p) (out (value.record_of v))
-  tree_after = ap (λ es. plain.map (pairs_of es)) (becomes.map ∙ ap (act f p) (sym (entries_again (pairs_of_record v))))
+  tree_after = ap (λ es. plain.map (pairs_of es)) (becomes.map ∙ ap (act f p) (sym (entries_of_pairs (pairs_of_record v))))
 
   pub parts_after : IsRecord (apply f p v)
   parts_after = record {

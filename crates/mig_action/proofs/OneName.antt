@@ -8,13 +8,13 @@ use Rattle.mig_model.specs.Template.{Template, Field, same_name}
 use Rattle.mig_model.specs.Inhabits.{Entries}
 use Rattle.mig_value.specs.Typed.{Typed, out}
 use Rattle.mig_value.specs.Fit.{Fits}
-use Rattle.mig_laws.proofs.Tests.{same_name_is}
 use Rattle.mig_action.specs.Edits.{under, has, without, put, bring, changed}
 use Rattle.mig_action.specs.NewRecord.{Scoped}
 use Rattle.mig_action.specs.Moves.{Moving}
 use Rattle.mig_action.proofs.Edits.{first, at_name, unaffected, changed_at, bring_at, under-put, under-without, ascends-put, ascends-without, ascends-bring, ascends-changed}
 use Rattle.mig_action.proofs.Stands.{Stands, IsRest}
 use Rattle.mig_action.proofs.Settings.{Setting, Mapped, Changed, changed_setting, changed_map, first-none, own_rest, own_away, own_tree, free_slot, not_away}
+use Rattle.mig_model.proofs.SameNames.{same_name_is}
 
 module _ (U : Typed → Type 0) (P : List ℕ → Typed → Type 0) (opened : Bool) (away : List ℕ → Bool) (elsewhere : List ℕ → Option Plain) where
   -- the setting after a change, and the map that it is part of

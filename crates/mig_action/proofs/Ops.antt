@@ -13,7 +13,6 @@ use Rattle.mig_model.specs.Inhabits.{Entries}
 use Rattle.mig_template.specs.Kept as template_kept
 use Rattle.mig_value.specs.Typed.{Typed}
 use Rattle.mig_value.specs.Kept as value_kept
-use Rattle.mig_laws.proofs.Tests.{split_and}
 use Rattle.mig_action.specs.Edits.{under, has, without, put, put_all, moved, those, others}
 use Rattle.mig_action.specs.FieldFn.{FieldOp, rename, drop, add, learn, forget, default, maybe, map_leaf, nest, unnest, wrap, unify, retag, add_case, fill_template}
 use Rattle.mig_action.specs.NewRecord.{Scoped, Slot, is_free, is_clear, filled, lessened, learned, can_be_learned, leaf_after, leaf_of_both, with_template, can_nest, inner_fields, unnested, unnest_slot, new_fields}
@@ -24,6 +23,7 @@ use Rattle.mig_action.proofs.OneName.{Settled, dropped, forgotten}
 use Rattle.mig_action.proofs.Values.{so, then_some}
 use Rattle.mig_action.proofs.Single.{is-free, at-field, renames, adds, learns, fills, lessens, maps, wraps, unifies}
 use Rattle.mig_action.proofs.Several.{nests, unnests}
+use Rattle.mig_model.proofs.Bools.{split_and}
 
 -- what is kept inside the fields and the values of a scope
 pub record Inside (U : Typed → Type 0) (s : Scoped) (m : Moving) : Type 0 where

@@ -11,19 +11,13 @@ use Rattle.mig_model.specs.Inhabits.{Entries}
 use Rattle.mig_template.specs.Parts.{is_among}
 use Rattle.mig_value.specs.Typed.{Slots, no_slot, slot, slots, slots_of, out, out_slots, in_order, tag_pair}
 use Rattle.mig_value.specs.Parts.{RecordParts, record_of}
-use Rattle.mig_laws.proofs.Tests.{split_and, same_name_is}
 use Rattle.mig_action.specs.Edits.{under, has, put_all}
-use Rattle.mig_action.proofs.Edits.{first, under-put_all, ascends-put_all, ascends-none, under-append}
+use Rattle.mig_action.proofs.Edits.{first, under-put_all, ascends-put_all, under-append}
 use Rattle.mig_action.proofs.Stands.{found_out}
 use Rattle.mig_action.proofs.Settings.{first-none}
-
-pub entries_again : (ps : Entries) → entries (pairs_of ps) ≡ ps
-entries_again [] = refl
-entries_again (p ∷ ps) = ap (λ l. p ∷ l) (entries_again ps)
-
-pub slots_whole : (ss : Slots) → slots_of (slots ss) ≡ ss
-slots_whole no_slot = refl
-slots_whole (slot n v ss) = ap (λ l. slot n v l) (slots_whole ss)
+use Rattle.mig_model.proofs.Rising.{nothing_ascends}
+use Rattle.mig_model.proofs.Bools.{split_and}
+use Rattle.mig_model.proofs.SameNames.{same_name_is}
 
 in_order_is : (qs : Entries) → in_order qs ≡ put_all qs []
 in_order_is [] = refl
@@ -33,7 +27,7 @@ pub under-in_order : (qs : Entries) (n : List ℕ) → under n (in_order qs) ≡
 under-in_order qs n = ap (under n) (in_order_is qs) ∙ (under-put_all qs [] n ∙ first-none (under n qs))
 
 pub ascends-in_order : (qs : Entries) → Ascends (in_order qs)
-ascends-in_order qs = subst Ascends (sym (in_order_is qs)) (ascends-put_all qs [] (ascends-none Plain))
+ascends-in_order qs = subst Ascends (sym (in_order_is qs)) (ascends-put_all qs [] (nothing_ascends Plain))
 
 -- the pairs of a record value, in the order of its lists
 abbrev pub pairs_by_list : RecordParts → Entries

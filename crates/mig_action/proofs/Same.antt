@@ -6,8 +6,10 @@ use Rattle.mig_model.specs.declared.presence.Presence.TheVariants.{Must, May}
 use Rattle.mig_model.specs.declared.rest.Rest.{Rest}
 use Rattle.mig_model.specs.declared.rest.Rest.TheVariants.{Open, Closed}
 use Rattle.mig_model.specs.Template.{Template, leaf, any, list, point, rec, sum, Fields, no_field, field, Choice, no_choice, choice, Cases, no_case, case, same_name}
-use Rattle.mig_laws.proofs.Tests.{split_and, same_name_is, same_kind_is}
+use Rattle.mig_laws.proofs.Tests.{same_kind_is}
 use Rattle.mig_action.specs.SameTemplate.{same_presence, same_rest, same_kept, same_template, same_fields, same_choice, same_cases}
+use Rattle.mig_model.proofs.Bools.{split_and}
+use Rattle.mig_model.proofs.SameNames.{same_name_is}
 
 presence_is : (p q : Presence) → same_presence p q ≡ true → p ≡ q
 presence_is Must Must h = refl

@@ -16,7 +16,6 @@ use Rattle.mig_value.specs.Typed.{Typed, Slot, Tag, out, tag_pair}
 use Rattle.mig_value.specs.Parts as value
 use Rattle.mig_value.specs.Fit.{TagFits, has_literal, has_unknown_tag}
 use Rattle.mig_value.specs.Kept as value_kept
-use Rattle.mig_laws.proofs.Tests.{split_or, same_name_itself}
 use Rattle.mig_action.specs.Edits.{under, has, put}
 use Rattle.mig_action.specs.FieldFn.{FieldOp}
 use Rattle.mig_action.specs.NewRecord.{Scoped, is_tag, new_fields}
@@ -26,8 +25,11 @@ use Rattle.mig_action.proofs.Edits.{first, same_under, under-put}
 use Rattle.mig_action.proofs.Stands.{Stands, IsRest, RecordStands, opened, case_of, has_either, field_is, literal_is}
 use Rattle.mig_action.proofs.Settings.{Setting, Mapped, none-there}
 use Rattle.mig_action.proofs.Orders.{pairs_of_record, under_record, ascends-in_order, pairs_by_list}
-use Rattle.mig_action.proofs.Distinct.{Distinct, common_apart, case_apart, case_ascends, distinct_of, neither, not_true}
+use Rattle.mig_action.proofs.Distinct.{Distinct, common_apart, case_apart, case_ascends, distinct_of}
 use Rattle.mig_action.proofs.Ops.{op_settled}
+use Rattle.mig_model.proofs.Bools.{right_or, both_false, split_or}
+use Rattle.std.proofs.lemmas.Bool.{false_from_ne_true}
+use Rattle.mig_model.proofs.SameNames.{same_name_itself}
 
 -- a record and a value of it, and what both keep
 pub record Suits (U : Typed → Type 0) (P : List ℕ → Typed → Type 0) (p : template.RecordParts) (v : value.RecordParts) : Type 0 where
@@ -54,10 +56,6 @@ first-assoc : {A : Type 0} (a b c : Option A) → first (first a b) c ≡ first 
 first-assoc None b c = refl
 first-assoc (Some a) b c = refl
 
-or_true : (a b : Bool) → b ≡ true → (a || b) ≡ true
-or_true true b e = refl
-or_true false b e = e
-
 case_field : (n l : List ℕ) (cs : List template.Case) → has n (unwrap_or (under l cs) []) ≡ true → is_case_field n (cases_of cs) ≡ true
 case_field n l [] h = h
 case_field n l (c ∷ cs) h = by (same_name l c.0) (case_field n l cs) h
@@ -69,7 +67,7 @@ case_field n l (c ∷ cs) h = by (same_name l c.0) (case_field n l cs) h
     by : (b : Bool) → (has n (unwrap_or (under l cs) []) ≡ true → is_case_field n (cases_of cs) ≡ true) → has n (unwrap_or (if b then Some c.1 else under l cs) []) ≡ true
         → (is_field n (fields_of c.1) || is_case_field n (cases_of cs)) ≡ true
     by true rest k = or_left (is_field n (fields_of c.1)) (is_case_field n (cases_of cs)) (field_is n c.1 ∙ k)
-    by false rest k = or_true (is_field n (fields_of c.1)) (is_case_field n (cases_of cs)) (rest k)
+    by false rest k = right_or (is_field n (fields_of c.1)) (is_case_field n (cases_of cs)) (rest k)
 
 -- a name elsewhere in the value is one of the choice's
 pub either_taken : (n : List ℕ) (c : Option template.Cases) (tag : Option Tag) → has_either n c tag ≡ true → is_in_choice n (choice_of c) ≡ true
@@ -140,7 +138,7 @@ module _ (U : Typed → Type 0) (P : List ℕ → Typed → Type 0) where
         let d = distinct_of p q.is_record v.tag in
         record {
           stand = record { tag = q.stand.tag; fields = r.setting.stand; cased = q.stand.cased; rest = r.setting.rests };
-          distinct = record { fields = λ n k. not_true (has_either n p.choice v.tag) (λ e. true≢false (sym (either_taken n p.choice v.tag e) ∙ r.setting.apart n k)); cased = d.cased; fields_ascend = r.setting.fields_ascend; cased_ascend = d.cased_ascend };
+          distinct = record { fields = λ n k. false_from_ne_true (has_either n p.choice v.tag) (λ e. true≢false (sym (either_taken n p.choice v.tag e) ∙ r.setting.apart n k)); cased = d.cased; fields_ascend = r.setting.fields_ascend; cased_ascend = d.cased_ascend };
           fields_ascend = r.setting.slots_ascend;
           cased_ascend = q.cased_ascend;
           rest_ascend = r.setting.rest_ascend;
@@ -185,7 +183,7 @@ module _ (U : Typed → Type 0) (P : List ℕ → Typed → Type 0) where
           by None h = tt
           by (Some w) h =
               let s = split_or (same_name n c.0) (has n (case_of (Some c) (Some t))) h.1 in
-              (none-there (under n ds) (sym (ap (has n) case_is) ∙ s.1), neither (has n fs) (same_name n c.0) (ap is_some h.0) s.0, h.2, h.3)
+              (none-there (under n ds) (sym (ap (has n) case_is) ∙ s.1), both_false (has n fs) (same_name n c.0) (ap is_some h.0) s.0, h.2, h.3)
 
       case_setting : Setting U P case_opened case_away case_scope case_moving
       case_setting = record {
@@ -269,15 +267,15 @@ module _ (U : Typed → Type 0) (P : List ℕ → Typed → Type 0) where
           rests gs m is k None h = tt
           rests gs m is k (Some x) h =
               let s = split_or (has k fs) (same_name k c.0) h.1 in
-              (none-there (under k fs) s.0, neither (same_name k c.0) (has k (case_of (Some (c.0, put t.1 gs c.1, c.2)) (Some t))) s.1 (ap (has k) is ∙ ap is_some h.0), subst IsTrue (case_opened_still gs) h.2, h.3)
+              (none-there (under k fs) s.0, both_false (same_name k c.0) (has k (case_of (Some (c.0, put t.1 gs c.1, c.2)) (Some t))) s.1 (ap (has k) is ∙ ap is_some h.0), subst IsTrue (case_opened_still gs) h.2, h.3)
 
           fields : (gs : List Field) → case_of (Some (c.0, put t.1 gs c.1, c.2)) (Some t) ≡ gs → ((x : List ℕ) → has x gs ≡ true → case_away x ≡ false) → (k : List ℕ) → has k fs ≡ true
               → has_either k (Some (c.0, put t.1 gs c.1, c.2)) (Some t) ≡ false
           fields gs is a k h =
               let d = distinct_of case_record q.is_record (Some t) in
               let s = split_or (same_name k c.0) (has k (case_of (Some c) (Some t))) (d.fields k h) in
-              neither (same_name k c.0) (has k (case_of (Some (c.0, put t.1 gs c.1, c.2)) (Some t))) s.0
-              (ap (has k) is ∙ not_true (has k gs) (λ l. true≢false (sym h ∙ (split_or (has k fs) (same_name k c.0) (a k l)).0)))
+              both_false (same_name k c.0) (has k (case_of (Some (c.0, put t.1 gs c.1, c.2)) (Some t))) s.0
+              (ap (has k) is ∙ false_from_ne_true (has k gs) (λ l. true≢false (sym h ∙ (split_or (has k fs) (same_name k c.0) (a k l)).0)))
 
           again : (gs : List Field) (m : Moving) → Setting U P case_opened case_away (record case_scope { fields = gs }) m → (k : List ℕ) (S : Option Typed) → under k m.slots ≡ S
               → first (option_map out (under k vf)) (first (under k (tag_pair (Some t))) (first (option_map out S) (option_map out (under k m.rest)))) ≡ first (option_map out S) (first (case_elsewhere k) (option_map out (under k m.rest)))

@@ -29,9 +29,6 @@ pub record Mapped (away : List ℕ → Bool) (elsewhere : List ℕ → Option Pl
   pub away_alone : (n : List ℕ) → away n ≡ false → elsewhere n ≡ None
   pub at : (n : List ℕ) → under n es ≡ first (option_map out (under n m.slots)) (first (elsewhere n) (option_map out (under n m.rest)))
 
-pub not_some : {A : Type 0} (a : A) (o : Option A) → o ≡ Some a → o ≡ None → ⊥
-not_some a o h k = let e : Some a ≡ None = sym h ∙ k in cc
-
 pub has-some : {A : Type 0} (o : Option A) (a : A) → o ≡ Some a → is_some o ≡ true
 has-some o a h = ap is_some h
 

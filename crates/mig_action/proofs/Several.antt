@@ -20,19 +20,23 @@ use Rattle.mig_value.specs.Typed as typed
 use Rattle.mig_value.specs.Parts as value
 use Rattle.mig_value.specs.Fit.{Fits, TagFits}
 use Rattle.mig_value.specs.Kept as value_kept
-use Rattle.mig_laws.proofs.Tests.{split_and, same_name_is}
 use Rattle.mig_laws.proofs.Reading.{fields_of_list}
 use Rattle.mig_action.specs.Edits.{under, has, without, put, put_all, those, others}
 use Rattle.mig_action.specs.FieldFn.{nest, unnest}
 use Rattle.mig_action.specs.NewRecord.{Scoped, is_free, can_nest, is_some_name, unnested}
 use Rattle.mig_action.specs.Act.{edit, pairs_in, inner_names}
 use Rattle.mig_action.specs.Moves.{Moving, move, open_record, inner_slots}
-use Rattle.mig_action.proofs.Edits.{first, under-put, under-without, under-those, under-others, under-put_all, put_without, same_under, at_name, ascends-put, ascends-without, ascends-those, ascends-others, ascends-put_all, ascends-none}
+use Rattle.mig_action.proofs.Edits.{first, under-put, under-without, under-those, under-others, under-put_all, put_without, same_under, at_name, ascends-put, ascends-without, ascends-those, ascends-others, ascends-put_all}
 use Rattle.mig_action.proofs.Stands.{Stands, IsRest, fits_stand, stand_fits, case_of, has_either}
 use Rattle.mig_action.proofs.Settings.{Setting, Mapped, first-none, own_tree, own_rest, own_away, free_slot, not_away, has-some, none-there}
 use Rattle.mig_action.proofs.OneName.{Settled, settled}
 use Rattle.mig_action.proofs.Single.{is-free}
-use Rattle.mig_action.proofs.Orders.{entries_again, slots_whole, pairs_by_list, pairs_of_record, under_record, ascends-in_order, among_is, all_names}
+use Rattle.mig_action.proofs.Orders.{pairs_by_list, pairs_of_record, under_record, ascends-in_order, among_is, all_names}
+use Rattle.mig_model.proofs.Rising.{nothing_ascends}
+use Rattle.mig_model.specs.Kinds.{entries_of_pairs}
+use Rattle.mig_model.proofs.Bools.{split_and}
+use Rattle.mig_model.proofs.SameNames.{same_name_is}
+use Rattle.mig_value.proofs.Views.{slots_whole}
 
 either : (a b : Bool) → (a || b) ≡ true → (a ≡ true) ⊎ (b ≡ true)
 either true b h = inl refl
@@ -77,7 +81,7 @@ module _ (U : Typed → Type 0) (P : List ℕ → Typed → Type 0) (opened : Bo
       inner_fits : Fits U P Inner (open_record (those xs m.slots))
       inner_fits =
           stand_fits U P (record { fields = those xs s.fields; choice = None; rest = Open }) inner_value
-          (ascends-those xs s.fields t.fields_ascend) (ascends-none (Presence × Template)) (ascends-those xs m.slots t.slots_ascend) (ascends-none Typed) (ascends-none Typed)
+          (ascends-those xs s.fields t.fields_ascend) (nothing_ascends (Presence × Template)) (ascends-those xs m.slots t.slots_ascend) (nothing_ascends Typed) (nothing_ascends Typed)
           (record { tag = tt; fields = inner_stands; cased = λ n. tt; rest = λ n. tt })
 
       inner_tree : Whole ≡ out (open_record (those xs m.slots))
@@ -222,7 +226,7 @@ module _ (U : Typed → Type 0) (P : List ℕ → Typed → Type 0) (opened : Bo
               record {
                 stand = λ n. subst (λ (S : Option Typed). Stands U P (option_map outer (under n gs)) (under n (inner_slots S))) (sym k) (less (under n gs) (under n (slots fs)) (a.fields n));
                 tree = λ n l.
-                    ap (under n) (gone (Some (typed.rec fs tag cs rs)) k ∙ (ap (λ v. pairs_in (Some (out v))) e ∙ entries_again (pairs_of_record w)))
+                    ap (under n) (gone (Some (typed.rec fs tag cs rs)) k ∙ (ap (λ v. pairs_in (Some (out v))) e ∙ entries_of_pairs (pairs_of_record w)))
                     ∙ (under_record w n
                     ∙ (alone n tag (slots cs) (under n (slots fs)) (under n (slots rs)) a.tag (a.cased n) (unknown (under n gs) (has_either n None tag) (is_open r || false) (under n (slots rs)) l (a.rest n))
                     ∙ sym (ap (λ (S : Option Typed). option_map out (under n (inner_slots S))) k)));

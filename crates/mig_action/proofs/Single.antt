@@ -12,7 +12,6 @@ use Rattle.mig_model.specs.Leaf.{LeafFn, leaf_value}
 use Rattle.mig_value.specs.Typed.{Typed, no_item, item, out}
 use Rattle.mig_value.specs.Typed as typed
 use Rattle.mig_value.specs.Fit.{Fits}
-use Rattle.mig_laws.proofs.Tests.{split_and}
 use Rattle.mig_action.specs.Edits.{under, has, without, put, bring, moved, changed}
 use Rattle.mig_action.specs.FieldFn.{Fill, fill_template, fill_tree, rename, add, learn, default, map_leaf, wrap, unify}
 use Rattle.mig_action.specs.NewRecord.{Scoped, Slot, is_free, filled, lessened, learned, can_be_learned, leaf_after, leaf_of_both, with_template, at_field}
@@ -25,10 +24,8 @@ use Rattle.mig_action.proofs.Settings.{Setting, Mapped, first-none, own_tree, fr
 use Rattle.mig_action.proofs.OneName.{Settled, at_one, dropped, retyped, kept, given, brought}
 use Rattle.mig_action.proofs.Same.{same_is}
 use Rattle.mig_action.proofs.Values.{so, mapped, then_some, fill_fits, fill_out, Learned, learned_tree, learned_stands, leaf_stands, leaf_same, sum_stands, sum_same}
-
-not-true : (b : Bool) → not b ≡ true → b ≡ false
-not-true true h = absurd (true≢false (sym h))
-not-true false h = refl
+use Rattle.std.proofs.lemmas.Bool.{not-true}
+use Rattle.mig_model.proofs.Bools.{split_and}
 
 -- a free name
 pub record IsFree (s : Scoped) (x : List ℕ) : Type 0 where

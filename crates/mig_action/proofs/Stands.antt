@@ -14,10 +14,11 @@ use Rattle.mig_value.specs.Typed.{Typed, Slot, Tag, slots_of, out, out_slots}
 use Rattle.mig_value.specs.Parts as value
 use Rattle.mig_value.specs.Parts.{record_of}
 use Rattle.mig_value.specs.Fit.{Fits, FieldsFit, CasesFit, ChoiceFits, EachSlot, TagFits, IsUnknown, has_literal, has_case_musts, has_cased_musts, has_unknown_tag, is_field_of_case, is_cased}
-use Rattle.mig_laws.proofs.Tests.{split_and, both_true, split_or, same_name_is}
 use Rattle.mig_action.specs.Edits.{under, has}
 use Rattle.mig_action.specs.NewRecord.{is_tag}
 use Rattle.mig_action.proofs.Edits.{above-none, ascends-head, ascends-tail, under-itself}
+use Rattle.mig_model.proofs.Bools.{split_and, split_or, both_true}
+use Rattle.mig_model.proofs.SameNames.{same_name_is}
 
 -- a value, or none, at a field, or none
 abbrev pub Stands : (Typed → Type 0) → (List ℕ → Typed → Type 0) → Option (Presence × Template) → Option Typed → Type 0

@@ -11,16 +11,17 @@ use Rattle.mig_model.specs.Const.{Const, const_kind, const_tree}
 use Rattle.mig_model.specs.Fields.{if_so}
 use Rattle.mig_model.specs.Const as model
 use Rattle.mig_model.specs.Leaf.{LeafFn, leaf_out, leaf_value}
-use Rattle.mig_leaf.proofs.KindOut.{value_has_kind}
+use Rattle.mig_leaf.proofs.KindOut.{value_has_kind, const_has_kind}
 use Rattle.mig_value.specs.Typed.{Typed, atom, list, left, right, rec, point, out}
 use Rattle.mig_value.specs.Leaf.{leaf_of}
 use Rattle.mig_value.specs.Fit.{Fits}
-use Rattle.mig_laws.proofs.Tests.{same_kind_is, same_kind_itself}
+use Rattle.mig_laws.proofs.Tests.{same_kind_is}
 use Rattle.mig_action.specs.FieldFn.{Fill, constant, empty_list, fill_template, fill_tree}
 use Rattle.mig_action.specs.NewRecord.{learned, can_be_learned, leaf_after, leaf_of_both, common_kind}
 use Rattle.mig_action.specs.Act.{is_learned, unified}
 use Rattle.mig_action.specs.Moves.{fill_value, at_leaf, at_side, leaf_of_kind, learned_value}
 use Rattle.mig_action.proofs.Stands.{Stands, IsRest}
+use Rattle.mig_model.proofs.SameNames.{same_kind_itself}
 
 -- ---- if_so
 pub so : {A : Type 0} (b : Bool) (a c : A) → if_so b a ≡ Some c → (b ≡ true) × (a ≡ c)
@@ -36,9 +37,6 @@ then_some f None b h = absurd (let e : None ≡ Some b = h in cc)
 then_some f (Some a) b h = (a, refl, h)
 
 -- ---- fills
-const_has_kind : (c : Const) → kind_of (const_tree c) ≡ const_kind c
-const_has_kind (model.byte z) = refl
-const_has_kind _ = refl
 
 pub fill_fits : (U : Typed → Type 0) (P : List ℕ → Typed → Type 0) (c : Fill) → Fits U P (fill_template c) (fill_value c)
 fill_fits U P (constant c) = const_has_kind c

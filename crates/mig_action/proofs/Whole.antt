@@ -14,7 +14,6 @@ use Rattle.mig_template.specs.Parts.{choice_of, found_case}
 use Rattle.mig_value.specs.Typed.{Typed, Slot, Tag, out, tag_pair}
 use Rattle.mig_value.specs.Fit.{has_literal}
 use Rattle.mig_value.specs.Parts as value
-use Rattle.mig_laws.proofs.Tests.{split_and, split_or, same_name_is, same_name_itself}
 use Rattle.mig_action.specs.Edits.{under, has, put, put_all, moved}
 use Rattle.mig_action.specs.FieldFn.{Scope, common, in_case, FieldOp, rename, drop, add, learn, forget, default, maybe, map_leaf, nest, unnest, wrap, unify, retag, add_case, FieldFn}
 use Rattle.mig_action.specs.NewRecord.{scoped, with_fields, new_fields, with_cases, retagged, can_be_case, with_case, new_by, new_record}
@@ -25,8 +24,11 @@ use Rattle.mig_action.proofs.Stands.{Stands, case_of, literal_is}
 use Rattle.mig_action.proofs.Settings.{none-there}
 use Rattle.mig_action.proofs.Values.{so, mapped}
 use Rattle.mig_action.proofs.Orders.{pairs_of_record, under_record, ascends-in_order, pairs_by_list}
-use Rattle.mig_action.proofs.Distinct.{distinct_of, not_true}
+use Rattle.mig_action.proofs.Distinct.{distinct_of}
 use Rattle.mig_action.proofs.Scopes.{Suits, Becomes, common_becomes, case_becomes, choice_becomes, stands_none}
+use Rattle.std.proofs.lemmas.Bool.{false_from_ne_true}
+use Rattle.mig_model.proofs.Bools.{split_and, split_or}
+use Rattle.mig_model.proofs.SameNames.{same_name_is, same_name_itself}
 
 module _ (U : Typed → Type 0) (P : List ℕ → Typed → Type 0) where
   -- ---- a function on the common fields
@@ -46,7 +48,7 @@ module _ (U : Typed → Type 0) (P : List ℕ → Typed → Type 0) where
 
     module _ (q : Suits U P p v) where
       tag_no_field : under c.0 vf ≡ None
-      tag_no_field = no_slot (under c.0 fs) (under c.0 vf) (none-there (under c.0 fs) (not_true (has c.0 fs) alone)) (q.stand.fields c.0)
+      tag_no_field = no_slot (under c.0 fs) (under c.0 vf) (none-there (under c.0 fs) (false_from_ne_true (has c.0 fs) alone)) (q.stand.fields c.0)
         where
           alone : has c.0 fs ≡ true → ⊥
           alone h = true≢false (sym (same_name_itself c.0) ∙ (split_or (same_name c.0 c.0) (has c.0 (case_of (Some c) (Some t))) ((distinct_of p q.is_record (Some t)).fields c.0 h)).0)
@@ -133,7 +135,7 @@ module _ (U : Typed → Type 0) (P : List ℕ → Typed → Type 0) where
 
         other_tag : same_name t.1 a ≡ false → Becomes U P retagged_record v (pairs_of_record v)
         other_tag e =
-            let new : same_name t.1 b ≡ false = not_true (same_name t.1 b) (λ k. true≢false (sym (literal_there strict) ∙ (ap (λ j. has j c.1) (same_name_is t.1 b k) ∙ free))) in
+            let new : same_name t.1 b ≡ false = false_from_ne_true (same_name t.1 b) (λ k. true≢false (sym (literal_there strict) ∙ (ap (λ j. has j c.1) (same_name_is t.1 b k) ∙ free))) in
             let now : under t.1 (moved a b c.1) ≡ under t.1 c.1 = now_at t.1 ∙ (λ i. if new i then under a c.1 else (if e i then None else under t.1 c.1)) in
             choice_becomes U P fs c rest vf t vc vr q (moved a b c.1) t.1 (ap (λ (F : Option (List Field)). unwrap_or F []) now) (ap is_some now) (pairs_of_record v) refl
 
@@ -149,7 +151,7 @@ module _ (U : Typed → Type 0) (P : List ℕ → Typed → Type 0) where
       -- ---- one more case
       one_case_more : (b : List ℕ) (ds : List Field) → c.2 ≡ false → has b c.1 ≡ false → Becomes U P (record { fields = fs; choice = Some (c.0, put b ds c.1, c.2); rest = rest }) v (pairs_of_record v)
       one_case_more b ds strict free =
-          let new : same_name t.1 b ≡ false = not_true (same_name t.1 b) (λ k. true≢false (sym (literal_there strict) ∙ (ap (λ j. has j c.1) (same_name_is t.1 b k) ∙ free))) in
+          let new : same_name t.1 b ≡ false = false_from_ne_true (same_name t.1 b) (λ k. true≢false (sym (literal_there strict) ∙ (ap (λ j. has j c.1) (same_name_is t.1 b k) ∙ free))) in
           let now : under t.1 (put b ds c.1) ≡ under t.1 c.1 = under-put b ds c.1 t.1 ∙ ap (λ x. if x then Some ds else under t.1 c.1) new in
           choice_becomes U P fs c rest vf t vc vr q (put b ds c.1) t.1 (ap (λ (F : Option (List Field)). unwrap_or F []) now) (ap is_some now) (pairs_of_record v) refl
 

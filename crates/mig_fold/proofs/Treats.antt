@@ -12,9 +12,10 @@ use Rattle.mig_model.specs.Inhabits.{Entries, EachItem, IsListOf, EachEntry, IsM
 use Rattle.mig_model.specs.Plain.{on_items, on_entries, each_entry}
 use Rattle.mig_fold.specs.Fold.{treat, treat_fields, treat_choice, treat_cases}
 use Rattle.mig_laws.specs.Sides.{SumsApart, FieldsApart, ChoiceApart, CasesApart}
-use Rattle.mig_laws.proofs.Tests.{if_agree, same_name_is, same_name_itself}
+use Rattle.mig_laws.proofs.Tests.{if_agree}
 use Rattle.mig_laws.proofs.Inhabitants.{RecordFits}
 use Rattle.mig_laws.proofs.Sides.{side_of}
+use Rattle.mig_model.proofs.SameNames.{same_name_is, same_name_itself}
 
 abbrev pub Treatment : Type 0
 Treatment = List ℕ → Plain → Plain

@@ -8,7 +8,6 @@ use Rattle.mig_template.specs.Parts.{choice_of, found_case}
 use Rattle.mig_value.specs.Typed.{Tag}
 use Rattle.mig_value.specs.Parts as value
 use Rattle.mig_value.specs.Parts.{IsRecord}
-use Rattle.mig_laws.proofs.Tests.{same_name_is}
 use Rattle.mig_action.specs.Edits.{under, has}
 use Rattle.mig_action.specs.FieldFn.{Scope, common, in_case, FieldOp, rename, drop, add, learn, forget, default, maybe, map_leaf, nest, unnest, wrap, unify, retag, add_case}
 use Rattle.mig_action.specs.NewRecord.{Scoped, is_tag, scoped, with_fields, new_fields, new_by}
@@ -23,6 +22,7 @@ use Rattle.mig_action.proofs.Stands.{Stands, RecordStands, fits_stand, case_of}
 use Rattle.mig_action.proofs.Values.{mapped, then_some}
 use Rattle.mig_func.specs.Ready.{IsReady, in_common, in_cased, common_after, cased_after}
 use Rattle.mig_func.proofs.Ready.{Whatever, Anything, ready}
+use Rattle.mig_model.proofs.SameNames.{same_name_is}
 
 -- ---- a function on the common fields
 pub common_is : (op : FieldOp) (p : template.RecordParts) (v : value.RecordParts) → common_after op p.fields v ≡ apply_by op common p v

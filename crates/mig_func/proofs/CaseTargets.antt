@@ -9,16 +9,18 @@ use Rattle.mig_model.specs.Fields.{if_so}
 use Rattle.mig_model.specs.Template.{Field, same_name}
 use Rattle.mig_template.specs.Kept.{RecordKept}
 use Rattle.mig_template.specs.Parts.{Case, Cases, RecordParts, IsRecordOf, IsOrderOf, has_twice_in, is_twice_named}
-use Rattle.mig_template.proofs.OneOrder.{one_order}
+use Rattle.mig_model.proofs.OneOrder.{one_order}
 use Rattle.mig_action.specs.Edits.{under, has, without, put, put_all, bring, moved}
 use Rattle.mig_action.specs.FieldFn.{common, retag, add_case}
 use Rattle.mig_action.specs.NewRecord.{new_by, with_cases, retagged, with_case, can_be_case, Slot}
 use Rattle.mig_func.specs.New.{with_more, are_clear}
 use Rattle.mig_func.proofs.Tests.{any_never, not_here}
-use Rattle.mig_action.proofs.Edits.{under-without, ascends-without, ascends-none}
+use Rattle.mig_action.proofs.Edits.{under-without, ascends-without}
 use Rattle.mig_func.proofs.Offers.{nothing_under, without-none, order_all}
 use Rattle.mig_func.proofs.Rebuilt.{cases_are, order_itself, more_ordered, more_made, more_twice, any_without, all_without}
-use Rattle.mig_func.proofs.Scopes.{once_in_both, case_once}
+use Rattle.mig_func.proofs.Scopes.{case_once}
+use Rattle.mig_model.proofs.Rising.{nothing_ascends}
+use Rattle.mig_template.proofs.Names.{first_once}
 
 has_less : {A : Type 0} (x n : List ℕ) (es : List (List ℕ × A)) → Ascends es → has n es ≡ false → has n (without x es) ≡ false
 has_less {A} x n es s h = ap is_some (under-without x es n s) ∙ by (same_name n x)
@@ -90,7 +92,7 @@ new_case_made p r c b fs k is strict apart clear good h =
     let A = cases_are p c k is in
     let once : has_twice (keys_of fs ++ c.0 ∷ keys_of p.fields) ≡ false = sym (more_twice p.fields c.0 c.2 c.1 b fs A.ascend apart A.tag A.none) ∙ good in
     let m = more_ordered c.0 c.2 c.1 b fs r.choice h.choice in
-    let o : IsOrderOf fs (put_all fs []) = order_all [] fs (ascends-none Slot) (once_in_both (keys_of fs) (c.0 ∷ keys_of p.fields) once) (any_never (keys_of fs)) in
+    let o : IsOrderOf fs (put_all fs []) = order_all [] fs (nothing_ascends Slot) (first_once (keys_of fs) (c.0 ∷ keys_of p.fields) once) (any_never (keys_of fs)) in
     let same : m.0 ≡ put_all fs [] = one_order fs m.0 (put_all fs []) m.1.same o.same m.1.ascend o.ascend in
     let made : r ≡ record p { choice = Some (c.0, put b m.0 c.1, c.2) } = more_made p r c.0 c.2 c.1 b fs m.0 k A.ascend A.each apart m.1 h in
     ap (option_and_then (λ d. option_map (with_cases p) (with_case b fs p.fields d))) is

@@ -13,17 +13,19 @@ use Rattle.mig_model.specs.Fields.{if_so}
 use Rattle.mig_model.specs.Template.{rec, Field, fields_of, Choice, no_choice, same_name}
 use Rattle.std.specs.Prelude.{IsPermutation}
 use Rattle.std.proofs.lemmas.List.Sorted.{IsPermutation-refl}
-use Rattle.mig_template.proofs.OneOrder.{one_order}
+use Rattle.mig_model.proofs.OneOrder.{one_order}
 use Rattle.mig_template.specs.Parts.{Cases, RecordParts, IsRecordOf, IsChoiceOf, choice_of, record_of, is_among}
 use Rattle.mig_template.proofs.Views.{field_list_of}
 use Rattle.mig_action.specs.Edits.{under, has, without, put, put_all, those, others}
 use Rattle.mig_action.specs.FieldFn.{nest, unnest}
 use Rattle.mig_action.specs.NewRecord.{Slot, Scoped, can_nest, is_some_name, unnested, unnest_slot, inner_fields}
 use Rattle.mig_func.specs.New.{IsNew, NoneTaken, Offers, Refuses, has_clash}
-use Rattle.mig_laws.proofs.Tests.{same_name_is, split_or, split_and}
-use Rattle.mig_func.proofs.Tests.{or_false, any_either, any_alike, not_all, neither}
+use Rattle.mig_func.proofs.Tests.{any_either, any_alike, not_all, neither}
 use Rattle.mig_action.proofs.Edits.{under-without, under-others, ascends-without, ascends-others}
 use Rattle.mig_func.proofs.Offers.{new_one, none_taken, taken_not, clash_is, order_all, offered, still_has}
+use Rattle.std.proofs.Math.Bool.{or-false}
+use Rattle.mig_model.proofs.Bools.{false_and, split_and, split_or}
+use Rattle.mig_model.proofs.SameNames.{same_name_is}
 
 all_has : (xs : List (List ℕ)) (fs : List Field) (y : List ℕ) → list_all (λ x. has x fs) xs ≡ true → is_among xs y ≡ true → has y fs ≡ true
 all_has [] fs y h k = absurd (true≢false (sym k))
@@ -64,21 +66,17 @@ nest_offers r xs y fs es s some once all is taken free =
 pub nest_none : (r : Rest) (xs : List (List ℕ)) (y : List ℕ) (fs : List Field) → is_some_name xs ≡ false → Refuses (nest xs y) r fs
 nest_none r xs y fs none taken free = ap (λ b. if_so (b && (not (has_twice xs) && (list_all (λ x. has x fs) xs && (is_among xs y || (not (has y fs) && not (taken y)))))) (put y (nest_slot xs fs) (others xs fs))) none
 
-either_false : (a b : Bool) → b ≡ false → (a && b) ≡ false
-either_false true b h = h
-either_false false b h = refl
-
 pub nest_twice : (r : Rest) (xs : List (List ℕ)) (y : List ℕ) (fs : List Field) → has_twice xs ≡ true → Refuses (nest xs y) r fs
 nest_twice r xs y fs twice taken free =
     let rest = list_all (λ x. has x fs) xs && (is_among xs y || (not (has y fs) && not (taken y))) in
-    ap (λ b. if_so b (put y (nest_slot xs fs) (others xs fs))) (either_false (is_some_name xs) (not (has_twice xs) && rest) (λ i. not (twice i) && rest))
+    ap (λ b. if_so b (put y (nest_slot xs fs) (others xs fs))) (false_and (is_some_name xs) (not (has_twice xs) && rest) (λ i. not (twice i) && rest))
 
 pub nest_missing : (r : Rest) (xs : List (List ℕ)) (y : List ℕ) (fs : List Field) → list_all (λ x. has x fs) xs ≡ false → Refuses (nest xs y) r fs
 nest_missing r xs y fs missing taken free =
     let rest = is_among xs y || (not (has y fs) && not (taken y)) in
     ap (λ b. if_so b (put y (nest_slot xs fs) (others xs fs)))
-    (either_false (is_some_name xs) (not (has_twice xs) && (list_all (λ x. has x fs) xs && rest))
-    (either_false (not (has_twice xs)) (list_all (λ x. has x fs) xs && rest) (λ i. missing i && rest)))
+    (false_and (is_some_name xs) (not (has_twice xs) && (list_all (λ x. has x fs) xs && rest))
+    (false_and (not (has_twice xs)) (list_all (λ x. has x fs) xs && rest) (λ i. missing i && rest)))
 
 -- ---- unnest
 unnested-keys : (p : Presence) (gs : List Field) → keys_of (map (unnested p) gs) ≡ keys_of gs
@@ -86,7 +84,7 @@ unnested-keys p [] = refl
 unnested-keys p (g ∷ gs) = ap (λ ks. g.0 ∷ ks) (unnested-keys p gs)
 
 morgan : (a b : Bool) → (a || b) ≡ not (not a && not b)
-morgan a b = sym (or_false (a || b)) ∙ neither a b
+morgan a b = sym (or-false (a || b)) ∙ neither a b
 
 abbrev unnest_test : List ℕ → List Field → (List ℕ → Bool) → List ℕ → Bool
 unnest_test y fs taken n = same_name n y || (not (has n fs) && not (taken n))

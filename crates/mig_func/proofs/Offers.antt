@@ -22,9 +22,13 @@ use Rattle.mig_action.specs.Edits.{under, has, without, put, put_all, bring, mov
 use Rattle.mig_action.specs.FieldFn.{Fill, fill_template, rename, drop, add, learn, forget}
 use Rattle.mig_action.specs.NewRecord.{Slot, is_clear, can_be_learned, learned, at_field}
 use Rattle.mig_func.specs.New.{has_clash, IsNew, NoneTaken, Offers}
-use Rattle.mig_laws.proofs.Tests.{same_name_is, same_name_itself, split_or, split_and}
-use Rattle.mig_func.proofs.Tests.{true_not, or_false, and_true, neither, any_either, any_alike, any_swap}
+use Rattle.mig_func.proofs.Tests.{neither, any_either, any_alike, any_swap}
 use Rattle.mig_action.proofs.Edits.{under-without, under-filter, ascends-filter, under-put, under-put_all, under-itself, put-permutes, ascends-put, ascends-put_all, ascends-without, same_under, first}
+use Rattle.std.proofs.Math.Bool.{or-false, and-true}
+use Rattle.std.proofs.lemmas.Bool.{not-true}
+use Rattle.mig_model.proofs.Bools.{split_and, split_or}
+use Rattle.mig_model.proofs.SameNames.{same_name_is, same_name_itself}
+use Rattle.mig_model.proofs.Entries.{keys_append}
 
 -- ---- names
 pub has_keys : {A : Type 0} (n : List ℕ) (es : List (List ℕ × A)) → has n es ≡ is_among (keys_of es) n
@@ -68,10 +72,6 @@ taken_not {A} taken (e ∷ es) n h k =
 pub none_taken : {A : Type 0} (taken : List ℕ → Bool) (es : List (List ℕ × A)) → ((n : List ℕ) → has n es ≡ true → taken n ≡ false) → list_any taken (keys_of es) ≡ false
 none_taken taken [] h = refl
 none_taken taken (e ∷ es) h = λ i. h e.0 (has_first e es) i || none_taken taken es (λ n k. h n (has_later n e es k)) i
-
-pub keys-append : {A : Type 0} (es ds : List (List ℕ × A)) → keys_of (es ++ ds) ≡ keys_of es ++ keys_of ds
-keys-append [] ds = refl
-keys-append (e ∷ es) ds = ap (λ ks. e.0 ∷ ks) (keys-append es ds)
 
 pub without-none : {A : Type 0} (x : List ℕ) (es : List (List ℕ × A)) → Ascends es → under x es ≡ None → without x es ≡ es
 without-none {A} x es s h = same_under (without x es) es (ascends-without x es s) s (λ n. under-without x es n s ∙ by n (same_name n x) refl)
@@ -117,7 +117,7 @@ clash_is taken base ads s free once =
     let L = keys_of ads in
     let twice : has_twice (K ++ L) ≡ list_any (is_among K) L = twice_in_both K L (once_if_ascends base s) once ∙ any_swap L K in
     let any : list_any taken (K ++ L) ≡ list_any taken L = list_any-append taken K L ∙ ap (λ b. b || list_any taken L) free in
-    ap (λ ks. has_twice ks || list_any taken ks) (keys-append base ads)
+    ap (λ ks. has_twice ks || list_any taken ks) (keys_append base ads)
     ∙ (λ i. twice i || any i)
     ∙ any_either (is_among K) taken L
     ∙ any_alike (λ n. is_among K n || taken n) (λ n. has n base || taken n) L (λ n. ap (λ b. b || taken n) (sym (has_keys n base)))
@@ -150,8 +150,8 @@ pub new_one : (base : List Field) (x : List ℕ) (t : Slot) (taken : List ℕ �
 new_one base x t taken s free =
     offered (not (has x base) && not (taken x)) (put x t base) (base ++ (x, t) ∷ []) taken
     (clash_is taken base ((x, t) ∷ []) s free refl ∙ neither (has x base) (taken x))
-    (λ k. let apart : has x base ≡ false = true_not (has x base) (split_and (not (has x base)) (not (taken x)) k).0 in
-    order_all base ((x, t) ∷ []) s refl (or_false (has x base) ∙ apart))
+    (λ k. let apart : has x base ≡ false = not-true (has x base) (split_and (not (has x base)) (not (taken x)) k).0 in
+    order_all base ((x, t) ∷ []) s refl (or-false (has x base) ∙ apart))
 
 -- none more
 pub new_none : (base : List Field) (taken : List ℕ → Bool) → Ascends base → NoneTaken taken base → IsNew (Some base) taken base
@@ -197,7 +197,7 @@ pub add_offers : (r : Rest) (x : List ℕ) (c : Fill) (fs es : List Field) → A
 add_offers r x c fs es s clear is taken free =
     let t : Slot = (Must, fill_template c) in
     let test : (not (has x fs) && not (taken x)) ≡ ((not (has x fs) && not (taken x)) && is_clear (fill_template c)) =
-    sym (and_true (not (has x fs) && not (taken x))) ∙ sym (λ i. (not (has x fs) && not (taken x)) && clear i) in
+    sym (and-true (not (has x fs) && not (taken x))) ∙ sym (λ i. (not (has x fs) && not (taken x)) && clear i) in
     subst (λ ds. IsNew (if_so ((not (has x fs) && not (taken x)) && is_clear (fill_template c)) (put x t fs)) taken ds) (sym is)
     (subst (λ b. IsNew (if_so b (put x t fs)) taken (fs ++ (x, t) ∷ [])) test (new_one fs x t taken s free))
 
@@ -205,7 +205,7 @@ pub learn_offers : (r : Rest) (x : List ℕ) (k : Option Kind) (fs es : List Fie
 learn_offers r x k fs es s open_rest can is taken free =
     let t : Slot = (May, learned k) in
     let test : (not (has x fs) && not (taken x)) ≡ ((not (has x fs) && not (taken x)) && (is_open r && can_be_learned k)) =
-    sym (and_true (not (has x fs) && not (taken x))) ∙ sym (λ i. (not (has x fs) && not (taken x)) && (open_rest i && can i)) in
+    sym (and-true (not (has x fs) && not (taken x))) ∙ sym (λ i. (not (has x fs) && not (taken x)) && (open_rest i && can i)) in
     subst (λ ds. IsNew (if_so ((not (has x fs) && not (taken x)) && (is_open r && can_be_learned k)) (put x t fs)) taken ds) (sym is)
     (subst (λ b. IsNew (if_so b (put x t fs)) taken (fs ++ (x, t) ∷ [])) test (new_one fs x t taken s free))
 

@@ -17,12 +17,12 @@ use Rattle.mig_template.proofs.Sorted.{once_if_ascends}
 use Rattle.mig_action.specs.Edits.{has, without, put}
 use Rattle.mig_action.specs.FieldFn.{common, in_case}
 use Rattle.mig_func.specs.New.{HasFields, has_clash, taken_by_rest, with_more}
-use Rattle.mig_laws.proofs.Tests.{split_or}
-use Rattle.mig_func.proofs.Tests.{or_false}
 use Rattle.mig_action.proofs.Edits.{ascends-without}
 use Rattle.mig_func.proofs.Offers.{order_all, gone, put-without}
 use Rattle.mig_func.proofs.Scopes.{case_clash}
 use Rattle.std.specs.Prelude.{is_some}
+use Rattle.std.proofs.Math.Bool.{or-false}
+use Rattle.mig_model.proofs.Bools.{split_or}
 
 -- ---- what is in order is its own order
 pub order_itself : {A : Type 0} (es : List (List ℕ × A)) → Ascends es → IsOrderOf es es
@@ -58,7 +58,7 @@ pub more_made : (p r : RecordParts) (tag : List ℕ) (kept : Bool) (cs : List Ca
 more_made p r tag kept cs l es fs k s all apart o h =
     one_record p.fields p.fields (with_more tag kept cs (l, es)) p.rest r (record p { choice = Some (tag, put l fs cs, kept) }) (IsPermutation-refl p.fields) h (record {
       fields = order_itself p.fields k.0.fields;
-      choice = (refl, (cs ++ (l, fs) ∷ [], (ordered_more cs cs (l, es) (l, fs) (ordered_itself cs all) refl o, order_all cs ((l, fs) ∷ []) s refl (or_false (has l cs) ∙ apart))), refl);
+      choice = (refl, (cs ++ (l, fs) ∷ [], (ordered_more cs cs (l, es) (l, fs) (ordered_itself cs all) refl o, order_all cs ((l, fs) ∷ []) s refl (or-false (has l cs) ∙ apart))), refl);
       rest_is = refl;
     })
 
@@ -67,10 +67,10 @@ pub more_twice : (fields : List Field) (tag : List ℕ) (kept : Bool) (cs : List
     → is_twice_named fields (with_more tag kept cs (l, es)) ≡ has_twice_in (tag ∷ keys_of fields) (l, es)
 more_twice fields tag kept cs l es s apart once none =
     let Q = λ (d : Case). has_twice_in (tag ∷ keys_of fields) d in
-    let here : list_any Q (cs ++ (l, es) ∷ []) ≡ Q (l, es) = list_any-append Q cs ((l, es) ∷ []) ∙ (λ i. none i || or_false (Q (l, es)) i) in
-    let order : IsOrderOf (cs ++ (l, es) ∷ []) (put l es cs) = order_all cs ((l, es) ∷ []) s refl (or_false (has l cs) ∙ apart) in
+    let here : list_any Q (cs ++ (l, es) ∷ []) ≡ Q (l, es) = list_any-append Q cs ((l, es) ∷ []) ∙ (λ i. none i || or-false (Q (l, es)) i) in
+    let order : IsOrderOf (cs ++ (l, es) ∷ []) (put l es cs) = order_all cs ((l, es) ∷ []) s refl (or-false (has l cs) ∙ apart) in
     let keys : has_twice (keys_of (cs ++ (l, es) ∷ [])) ≡ false = keys_moved (cs ++ (l, es) ∷ []) (put l es cs) order.same ∙ once_if_ascends (put l es cs) order.ascend in
-    (λ i. once i || (here i || keys i)) ∙ or_false (Q (l, es))
+    (λ i. once i || (here i || keys i)) ∙ or-false (Q (l, es))
 
 -- ---- a case taken out
 pub any_without : (q : Case → Bool) (l : List ℕ) (cs : List Case) → list_any q cs ≡ false → list_any q (without l cs) ≡ false

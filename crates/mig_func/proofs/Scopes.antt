@@ -10,23 +10,16 @@ use Rattle.mig_model.specs.Fields.{is_case_field, is_field}
 use Rattle.mig_model.specs.Template.{Field, fields_of, cases_of, same_name}
 use Rattle.mig_template.specs.Parts as parts
 use Rattle.mig_template.specs.Parts.{RecordParts, IsRecord, Cases, choice_of, is_among, has_twice_in, is_twice_in, is_twice_named}
-use Rattle.mig_template.proofs.Names.{twice_in_both, twice_in_more}
+use Rattle.mig_template.proofs.Names.{twice_in_both, twice_in_more, first_once}
 use Rattle.mig_template.proofs.Views.{field_list_of}
 use Rattle.mig_action.specs.Edits.{under}
 use Rattle.mig_action.specs.NewRecord.{is_tag}
 use Rattle.mig_func.specs.New.{has_clash, taken_by_choice, taken_by_rest}
-use Rattle.mig_laws.proofs.Tests.{split_or}
-use Rattle.mig_action.proofs.Edits.{flips}
-use Rattle.mig_func.proofs.Tests.{or_false, or_true, any_either, any_alike, any_never, any_swap}
+use Rattle.mig_func.proofs.Tests.{any_either, any_alike, any_never, any_swap}
 use Rattle.mig_func.proofs.Offers.{has_keys}
-
--- names that stand beside others: none of either stands twice, and none is among the others
-pub once_in_both : (ks others : List (List ℕ)) → has_twice (ks ++ others) ≡ false → has_twice ks ≡ false
-once_in_both ks others h = by (has_twice ks) refl
-  where
-    by : (b : Bool) → has_twice ks ≡ b → has_twice ks ≡ false
-    by false e = e
-    by true e = absurd (true≢false (sym (twice_in_more ks others e) ∙ h))
+use Rattle.std.proofs.Math.Bool.{or-false, or-true}
+use Rattle.mig_model.proofs.Bools.{split_or}
+use Rattle.mig_model.proofs.SameNames.{same_name_flips}
 
 twice_beside : (ks others : List (List ℕ)) → has_twice others ≡ false → has_twice (ks ++ others) ≡ (has_twice ks || list_any (is_among others) ks)
 twice_beside ks others once = by (has_twice ks) refl
@@ -46,8 +39,8 @@ case_clash p c es is once =
     ∙ (λ i. sym (has_keys n p.fields) i || is_tag n (sym is i))))
   where
     turned : (a b : Bool) → (a || b) ≡ (b || a)
-    turned true b = sym (or_true b)
-    turned false b = sym (or_false b)
+    turned true b = sym (or-true b)
+    turned false b = sym (or-false b)
 
 -- ---- the common fields
 field_is : (n : List ℕ) (fs : List Field) → is_field n (fields_of fs) ≡ is_among (keys_of fs) n
@@ -56,13 +49,13 @@ field_is n fs = ap (λ ds. is_some (lookup (is_at (by_bytes n)) ds)) (field_list
 names_of_case : (tag : List ℕ) (ks names others : List (List ℕ)) → has_twice (names ++ tag ∷ others) ≡ false → has_twice (tag ∷ others) ≡ false → has_twice (tag ∷ ks) ≡ false
     → has_twice (names ++ tag ∷ ks) ≡ list_any (is_among names) ks
 names_of_case tag ks names others h once once' =
-    twice_in_both names (tag ∷ ks) (once_in_both names (tag ∷ others) h) once'
+    twice_in_both names (tag ∷ ks) (first_once names (tag ∷ others) h) once'
     ∙ sym (any_either (λ m. same_name m tag) (is_among ks) names)
     ∙ ap (λ b. b || list_any (is_among ks) names) no_tag
     ∙ any_swap ks names
   where
     both : (list_any (λ m. same_name m tag) names || list_any (is_among others) names) ≡ false
-    both = any_either (λ m. same_name m tag) (is_among others) names ∙ sym (twice_in_both names (tag ∷ others) (once_in_both names (tag ∷ others) h) once) ∙ h
+    both = any_either (λ m. same_name m tag) (is_among others) names ∙ sym (twice_in_both names (tag ∷ others) (first_once names (tag ∷ others) h) once) ∙ h
 
     no_tag : list_any (λ m. same_name m tag) names ≡ false
     no_tag = (split_or (list_any (λ m. same_name m tag) names) (list_any (is_among others) names) both).0
@@ -91,24 +84,24 @@ choice_clash fs es c h = by (has_twice ks) refl (is_among ks c.0) refl
     second = split_or (list_any (has_twice_in (c.0 ∷ keys_of fs)) c.1) (has_twice (keys_of c.1)) first.1
 
     tag_first : list_any (λ n. same_name n c.0) ks ≡ is_among ks c.0
-    tag_first = any_alike (λ n. same_name n c.0) (same_name c.0) ks (λ n. flips n c.0)
+    tag_first = any_alike (λ n. same_name n c.0) (same_name c.0) ks (λ n. same_name_flips n c.0)
 
     taken : list_any (taken_by_choice (Some c)) ks ≡ (is_among ks c.0 || list_any (λ n. is_case_field n (cases_of c.1)) ks)
     taken = sym (any_either (λ n. same_name n c.0) (λ n. is_case_field n (cases_of c.1)) ks) ∙ ap (λ b. b || list_any (λ n. is_case_field n (cases_of c.1)) ks) tag_first
 
     by : (a : Bool) → has_twice ks ≡ a → (b : Bool) → is_among ks c.0 ≡ b → is_twice_named es (Some c) ≡ has_clash (taken_by_choice (Some c)) es
-    by true e b f = ap (λ x. (is_among ks c.0 || x) || is_twice_in (c.0 ∷ ks) c.1) e ∙ ap (λ x. x || is_twice_in (c.0 ∷ ks) c.1) (or_true (is_among ks c.0)) ∙ sym (ap (λ x. x || list_any (taken_by_choice (Some c)) ks) e)
+    by true e b f = ap (λ x. (is_among ks c.0 || x) || is_twice_in (c.0 ∷ ks) c.1) e ∙ ap (λ x. x || is_twice_in (c.0 ∷ ks) c.1) (or-true (is_among ks c.0)) ∙ sym (ap (λ x. x || list_any (taken_by_choice (Some c)) ks) e)
     by false e true f =
         ap (λ x. (x || has_twice ks) || is_twice_in (c.0 ∷ ks) c.1) f
         ∙ sym ((λ i. e i || taken i) ∙ ap (λ x. x || list_any (λ n. is_case_field n (cases_of c.1)) ks) f)
     by false e false f =
         (λ i. (f i || e i) || (cases_clash c.0 ks (keys_of fs) c.1 second.0 first.0 (λ j. f j || e j) i || second.1 i))
-        ∙ or_false (list_any (λ n. is_case_field n (cases_of c.1)) ks)
+        ∙ or-false (list_any (λ n. is_case_field n (cases_of c.1)) ks)
         ∙ sym ((λ i. e i || taken i) ∙ ap (λ x. x || list_any (λ n. is_case_field n (cases_of c.1)) ks) f)
 
 -- other common fields beside the choice of a record
 pub common_clash : (fs es : List Field) (c : Option Cases) → is_twice_named fs c ≡ false → is_twice_named es c ≡ has_clash (taken_by_choice c) es
-common_clash fs es None h = sym ((λ i. has_twice (keys_of es) || any_never (keys_of es) i) ∙ or_false (has_twice (keys_of es)))
+common_clash fs es None h = sym ((λ i. has_twice (keys_of es) || any_never (keys_of es) i) ∙ or-false (has_twice (keys_of es)))
 common_clash fs es (Some c) h = choice_clash fs es c h
 
 -- the common fields of a record aren't taken by its choice, since its names are distinct

@@ -4,7 +4,7 @@ use Rattle.std.specs.Prelude.{option_map, option_and_then}
 use Rattle.mig_model.specs.Template.{Field}
 use Rattle.mig_template.specs.Kept.{RecordKept}
 use Rattle.mig_template.specs.Parts.{Cases, RecordParts, found_case, is_twice_named}
-use Rattle.mig_template.proofs.OneOrder.{one_order}
+use Rattle.mig_model.proofs.OneOrder.{one_order}
 use Rattle.mig_action.specs.FieldFn.{Scope, common, in_case, FieldOp, retag, add_case}
 use Rattle.mig_action.specs.NewRecord.{new_by, new_fields, scoped, with_fields}
 use Rattle.mig_func.specs.New.{has_clash, Makes, NoneTaken, Offers, Refuses, HasFields, fields_after, taken_by_choice, taken_by_rest, is_about_cases}

@@ -4,23 +4,7 @@ use Rattle.std.specs.Prelude.{not, ◌&&◌}
 use Rattle.std.specs.List.{list_any, list_all}
 use Rattle.mig_model.specs.Template.{same_name}
 use Rattle.mig_template.specs.Parts.{is_among}
-use Rattle.mig_action.proofs.Edits.{flips}
-
-pub true_not : (b : Bool) → not b ≡ true → b ≡ false
-true_not false e = refl
-true_not true e = absurd (true≢false (sym e))
-
-pub or_false : (b : Bool) → (b || false) ≡ b
-or_false false = refl
-or_false true = refl
-
-pub or_true : (b : Bool) → (b || true) ≡ true
-or_true false = refl
-or_true true = refl
-
-pub and_true : (b : Bool) → (b && true) ≡ b
-and_true false = refl
-and_true true = refl
+use Rattle.mig_model.proofs.SameNames.{same_name_flips}
 
 pub neither : (a b : Bool) → ((a || b) || false) ≡ not (not a && not b)
 neither true b = refl
@@ -48,7 +32,7 @@ any_never (x ∷ xs) = any_never xs
 pub any_swap : (ls ks : List (List ℕ)) → list_any (is_among ls) ks ≡ list_any (is_among ks) ls
 any_swap ls [] = sym (any_never ls)
 any_swap ls (k ∷ ks) =
-    (λ i. any_alike (same_name k) (λ n. same_name n k) ls (flips k) i || any_swap ls ks i)
+    (λ i. any_alike (same_name k) (λ n. same_name n k) ls (same_name_flips k) i || any_swap ls ks i)
     ∙ any_either (λ n. same_name n k) (is_among ks) ls
 
 pub not_all : {A : Type 0} (p : A → Bool) (xs : List A) → not (list_all p xs) ≡ list_any (λ x. not (p x)) xs

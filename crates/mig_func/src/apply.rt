@@ -1,3 +1,4 @@
+//! Field functions at record values.
 ghost use Rattle.std.specs.Prelude.{◌≡◌, ◌≤◌, ℕ, List, [], Some, false, is_some, option_map, unwrap_or, Contains, IfOk, IsTrue, if◌then◌else◌};
 ghost use Rattle.std.specs.List.{AllByRecursion};
 ghost use Rattle.mig_model.specs.declared.form.Form.{Form};
@@ -284,10 +285,18 @@ impl FieldFn {
     ) -> Result<Value<'a>, Memory>
         requires fits { IsTrue (is_some (new_record (field_fn_of self.now) on.now)) }
         requires shape { Shape (template.record_of on.now) (typed_of value) }
-        ensures tree { IfOk result (λ w. out (typed_of w) ≡ on_entries (act (field_fn_of self.now) on.now) (out (typed_of value.entry))) }
-        ensures shape { IfOk result (λ w. (r : template.RecordParts) → new_record (field_fn_of self.now) on.now ≡ Some r → Shape (template.record_of r) (typed_of w)) }
-        ensures fit { IfOk result (λ w. (r : template.RecordParts) → new_record (field_fn_of self.now) on.now ≡ Some r → (form : Form) (body : List ℕ → plain.Template) → Fits (IsOfForm form) (Fit form body) (template.record_of on.now) (typed_of value.entry) → IsOfForm form (typed_of value.entry) → Fits (IsOfForm form) (Fit form body) (template.record_of r) (typed_of w)) }
-        ensures nodes { IfOk result (λ w. (r : template.RecordParts) → new_record (field_fn_of self.now) on.now ≡ Some r → AllByRecursion (Contains (nodes_at (template.record_of on.now) (typed_of value.entry))) (nodes_at (template.record_of r) (typed_of w))) }
+        ensures tree { IfOk result (λ w. out (typed_of w)
+            ≡ on_entries (act (field_fn_of self.now) on.now) (out (typed_of value.entry))) }
+        ensures shape { IfOk result (λ w. (r : template.RecordParts) → new_record (field_fn_of self.now) on.now
+            ≡ Some r → Shape (template.record_of r) (typed_of w)) }
+        ensures fit { IfOk result (λ w. (r : template.RecordParts) → new_record (field_fn_of self.now) on.now
+            ≡ Some r → (form : Form) (body : List ℕ → plain.Template) →
+            Fits (IsOfForm form) (Fit form body) (template.record_of on.now) (typed_of value.entry) →
+            IsOfForm form (typed_of value.entry) →
+            Fits (IsOfForm form) (Fit form body) (template.record_of r) (typed_of w)) }
+        ensures nodes { IfOk result (λ w. (r : template.RecordParts) → new_record (field_fn_of self.now) on.now
+            ≡ Some r → AllByRecursion (Contains (nodes_at (template.record_of on.now) (typed_of value.entry)))
+            (nodes_at (template.record_of r) (typed_of w))) }
         ensures count { IfOk result (λ w. (q : Test) → nodes q (typed_of w) ≤ nodes q (typed_of value.entry)) }
     {
         on.keeps();

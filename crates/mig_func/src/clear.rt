@@ -1,3 +1,4 @@
+//! Whether each sum in a template can be told by the kinds of its sides.
 ghost use Rattle.std.specs.Prelude.{◌≡◌};
 ghost use Rattle.mig_action.specs.NewRecord.{is_unclear, is_clear};
 ghost use Rattle.mig_model.specs.Family.{is_point, sides_overlap, any_inside, any_in_fields, any_in_cases};

@@ -1,3 +1,4 @@
+//! Copies of fields.
 ghost use Rattle.std.specs.Prelude.{◌≡◌, IfOk, map};
 ghost use Rattle.mig_template.specs.View.{field_of};
 

@@ -1,3 +1,4 @@
+//! Why a function gives no new record.
 ghost use Rattle.std.specs.Prelude.{◌≡◌};
 ghost use Rattle.mig_func.specs.declared.fault.FuncFault.TheVariants as faults;
 

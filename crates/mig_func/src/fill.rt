@@ -1,3 +1,4 @@
+//! What fills a new field.
 ghost use Rattle.std.specs.Prelude.{◌≡◌, IfOk};
 ghost use Rattle.mig_action.specs.FieldFn.{fill_template};
 ghost use Rattle.mig_action.specs.SameTemplate.{same_template};

@@ -1,3 +1,4 @@
+//! Field functions, and the scope in which one works.
 ghost use Rattle.std.specs.Prelude.{◌≡◌, IfOk, map};
 ghost use Rattle.mig_template.specs.View.{field_of};
 ghost use Rattle.mig_func.specs.View.{scope_of, field_op_of, field_fn_of};

@@ -1,3 +1,4 @@
+//! Lists of fields without some, or with one more.
 ghost use Rattle.std.specs.Prelude.{◌≡◌, ◌∷◌, ◌++◌, [], IfOk, map};
 ghost use Rattle.mig_action.specs.Edits.{without, those, others};
 ghost use Rattle.mig_model.specs.Template.{same_name};
@@ -69,7 +70,8 @@ pub fn replaced(
     presence: Presence,
     template: Template,
 ) -> Result<Vec<Field>, Memory>
-    ensures list { IfOk result (λ es. map field_of es.items ≡ without out.now fields.now ++ (name.now, (presence, template_of template)) ∷ []) }
+    ensures list { IfOk result (λ es. map field_of es.items
+        ≡ without out.now fields.now ++ (name.now, (presence, template_of template)) ∷ []) }
     ensures ascend { IfOk result (λ es. Ascends fields.now) }
 {
     let name = name.copy(alloc)?;
@@ -90,7 +92,8 @@ pub fn appended(
     presence: Presence,
     template: Template,
 ) -> Result<Vec<Field>, Memory>
-    ensures list { IfOk result (λ es. map field_of es.items ≡ fields.now ++ (name.now, (presence, template_of template)) ∷ []) }
+    ensures list { IfOk result (λ es. map field_of es.items
+        ≡ fields.now ++ (name.now, (presence, template_of template)) ∷ []) }
     ensures ascend { IfOk result (λ es. Ascends fields.now) }
 {
     let name = name.copy(alloc)?;

@@ -1,3 +1,4 @@
+//! The new fields of a nest and of an unnest.
 ghost use Rattle.std.specs.Prelude.{◌≡◌, ◌∷◌, ◌++◌, [], Some, false, true, map, IfOk, IfErr};
 ghost use Rattle.std.specs.List.{list_all};
 ghost use Rattle.mig_action.specs.Edits.{has, those, others, under};
@@ -65,7 +66,8 @@ fn with_inner(
     name: &Name,
     template: Template,
 ) -> Result<Vec<Field>, Memory>
-    ensures list { IfOk result (λ es. map field_of es.items ≡ others names.now fields.now ++ (name.now, (Presence.Must, template_of template)) ∷ []) }
+    ensures list { IfOk result (λ es. map field_of es.items
+        ≡ others names.now fields.now ++ (name.now, (Presence.Must, template_of template)) ∷ []) }
     ensures ascend { IfOk result (λ es. Ascends fields.now) }
 {
     let name = name.copy(alloc)?;
@@ -85,7 +87,8 @@ pub fn nested(
     names: &Names,
     name: &Name,
 ) -> Result<Vec<Field>, FuncFault>
-    ensures offers { IfOk result (λ es. (r : rests.Rest) → Offers (nest names.now name.now) r fields.now (map field_of es.items)) }
+    ensures offers { IfOk result (λ es. (r : rests.Rest) →
+        Offers (nest names.now name.now) r fields.now (map field_of es.items)) }
     ensures misfit { IfErr result (λ e. IsFault e ((r : rests.Rest) → Refuses (nest names.now name.now) r fields.now)) }
 {
     if !is_some_name(names.as_slice()) {
@@ -124,7 +127,8 @@ fn with_outer(
     presence: Presence,
     fields: &Fields,
 ) -> Result<Vec<Field>, Memory>
-    ensures { IfOk result (λ es. map field_of es.items ≡ map field_of list.items ++ map (unnested presence) fields.now) }
+    ensures { IfOk result (λ es. map field_of es.items
+        ≡ map field_of list.items ++ map (unnested presence) fields.now) }
 {
     for field in fields.as_slice() {
         list.push(outer(alloc, presence, field)?)?;
@@ -141,7 +145,8 @@ fn outside(
     inner: &Record,
 ) -> Result<Vec<Field>, FuncFault>
     requires { under name.now fields.now ≡ Some (presence, record_of inner.now) }
-    ensures offers { IfOk result (λ es. (r : rests.Rest) → Offers (unnest name.now) r fields.now (map field_of es.items)) }
+    ensures offers { IfOk result (λ es. (r : rests.Rest) →
+        Offers (unnest name.now) r fields.now (map field_of es.items)) }
     ensures misfit { IfErr result (λ e. IsFault e ((r : rests.Rest) → Refuses (unnest name.now) r fields.now)) }
 {
     inner.keeps();
@@ -155,7 +160,8 @@ fn outside(
 
 /// The fields with those of the record under the name in its place.
 pub fn unnested(alloc: Global, fields: &Fields, name: &Name) -> Result<Vec<Field>, FuncFault>
-    ensures offers { IfOk result (λ es. (r : rests.Rest) → Offers (unnest name.now) r fields.now (map field_of es.items)) }
+    ensures offers { IfOk result (λ es. (r : rests.Rest) →
+        Offers (unnest name.now) r fields.now (map field_of es.items)) }
     ensures misfit { IfErr result (λ e. IsFault e ((r : rests.Rest) → Refuses (unnest name.now) r fields.now)) }
 {
     let Some(field) = fields.get(name.bytes()) else {

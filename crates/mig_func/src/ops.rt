@@ -1,3 +1,4 @@
+//! The new fields of the other functions.
 ghost use Rattle.std.specs.Prelude.{◌≡◌, None, IfOk, IfErr, map};
 ghost use Rattle.mig_action.specs.FieldFn.{rename, drop, add, learn, forget};
 ghost use Rattle.mig_action.specs.NewRecord.{at_field};
@@ -23,7 +24,8 @@ pub fn renamed(
     from: &Name,
     to: &Name,
 ) -> Result<Vec<Field>, FuncFault>
-    ensures offers { IfOk result (λ es. (r : rests.Rest) → Offers (rename from.now to.now) r fields.now (map field_of es.items)) }
+    ensures offers { IfOk result (λ es. (r : rests.Rest) →
+        Offers (rename from.now to.now) r fields.now (map field_of es.items)) }
     ensures misfit { IfErr result (λ e. IsFault e ((r : rests.Rest) → Refuses (rename from.now to.now) r fields.now)) }
 {
     let Some(field) = fields.get(from.bytes()) else {
@@ -39,7 +41,8 @@ pub fn renamed(
 
 /// The fields without the one of the name.
 pub fn dropped(alloc: Global, fields: &Fields, name: &Name) -> Result<Vec<Field>, FuncFault>
-    ensures offers { IfOk result (λ es. (r : rests.Rest) → Offers (drop name.now) r fields.now (map field_of es.items)) }
+    ensures offers { IfOk result (λ es. (r : rests.Rest) →
+        Offers (drop name.now) r fields.now (map field_of es.items)) }
     ensures misfit { IfErr result (λ e. IsFault e ((r : rests.Rest) → Refuses (drop name.now) r fields.now)) }
 {
     if !fields.has(name.bytes()) {
@@ -83,8 +86,10 @@ pub fn added(
     name: &Name,
     fill: &Fill,
 ) -> Result<Vec<Field>, FuncFault>
-    ensures offers { IfOk result (λ es. (r : rests.Rest) → Offers (add name.now (fill_of fill.now)) r fields.now (map field_of es.items)) }
-    ensures misfit { IfErr result (λ e. IsFault e ((r : rests.Rest) → Refuses (add name.now (fill_of fill.now)) r fields.now)) }
+    ensures offers { IfOk result (λ es. (r : rests.Rest) →
+        Offers (add name.now (fill_of fill.now)) r fields.now (map field_of es.items)) }
+    ensures misfit { IfErr result (λ e. IsFault e ((r : rests.Rest) →
+        Refuses (add name.now (fill_of fill.now)) r fields.now)) }
 {
     let template = fill.template(alloc)?;
     if !is_clear(&template) {
@@ -123,8 +128,11 @@ pub fn at_field(
     fields: &Fields,
     name: &Name,
 ) -> Result<Vec<Field>, FuncFault>
-    ensures offers { IfOk result (λ es. OffersList (at_field name.now (slot_after (field_op_of op.now)) fields.now) fields.now (map field_of es.items)) }
-    ensures misfit { IfErr result (λ e. IsFault e (at_field name.now (slot_after (field_op_of op.now)) fields.now ≡ None)) }
+    ensures offers { IfOk result (λ es.
+        OffersList (at_field name.now (slot_after (field_op_of op.now)) fields.now) fields.now
+        (map field_of es.items)) }
+    ensures misfit { IfErr result (λ e. IsFault e (at_field name.now (slot_after (field_op_of op.now)) fields.now
+        ≡ None)) }
 {
     let Some(field) = fields.get(name.bytes()) else {
         return Err(FuncFault::Misfit);

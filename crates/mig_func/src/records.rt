@@ -1,3 +1,4 @@
+//! Records with other fields, or with other cases.
 ghost use Rattle.std.specs.Prelude.{◌≡◌, ◌∷◌, ◌++◌, [], Some, true, false, map, option_map, IfOk, IfErr};
 ghost use Rattle.mig_action.specs.Edits.{without};
 ghost use Rattle.mig_action.specs.FieldFn.{common, in_case};
@@ -80,7 +81,8 @@ pub fn record_of(
     requires { has_no_case (given_choice choice) ≡ false }
     ensures made { IfOk result (IsRecordOf (map field_of fields.items) (given_choice choice) rest) }
     ensures once { IfOk result (λ r. is_twice_named (map field_of fields.items) (given_choice choice) ≡ false) }
-    ensures misfit { IfErr result (λ e. IsFault e (is_twice_named (map field_of fields.items) (given_choice choice) ≡ true)) }
+    ensures misfit { IfErr result (λ e. IsFault e (is_twice_named (map field_of fields.items) (given_choice choice)
+        ≡ true)) }
 {
     match Record::new(alloc, fields, choice, rest) {
         Ok(record) => Ok(record),
@@ -94,7 +96,8 @@ pub fn record_of(
 pub fn with_common(alloc: Global, on: &Record, list: Vec<Field>) -> Result<Record, FuncFault>
     ensures made { IfOk result (λ r. HasFields common on.now (map field_of list.items) r) }
     ensures once { IfOk result (λ r. has_clash (taken_by_choice on.now.choice) (map field_of list.items) ≡ false) }
-    ensures misfit { IfErr result (λ e. IsFault e (has_clash (taken_by_choice on.now.choice) (map field_of list.items) ≡ true)) }
+    ensures misfit { IfErr result (λ e.
+        IsFault e (has_clash (taken_by_choice on.now.choice) (map field_of list.items) ≡ true)) }
 {
     on.keeps();
     let choice = copy_choice(alloc, on)?;
@@ -110,9 +113,14 @@ pub fn with_more(
     literal: Name,
     list: Vec<Field>,
 ) -> Result<Record, FuncFault>
-    ensures made { IfOk result (IsRecordOf on.now.fields (with_more choice.now.0 choice.now.2 (map given_case cases.items) (literal, map field_of list.items)) on.now.rest) }
-    ensures once { IfOk result (λ r. is_twice_named on.now.fields (with_more choice.now.0 choice.now.2 (map given_case cases.items) (literal, map field_of list.items)) ≡ false) }
-    ensures misfit { IfErr result (λ e. IsFault e (is_twice_named on.now.fields (with_more choice.now.0 choice.now.2 (map given_case cases.items) (literal, map field_of list.items)) ≡ true)) }
+    ensures made { IfOk result (IsRecordOf on.now.fields (with_more choice.now.0 choice.now.2
+        (map given_case cases.items) (literal, map field_of list.items)) on.now.rest) }
+    ensures once { IfOk result (λ r.
+        is_twice_named on.now.fields (with_more choice.now.0 choice.now.2 (map given_case cases.items)
+        (literal, map field_of list.items)) ≡ false) }
+    ensures misfit { IfErr result (λ e.
+        IsFault e (is_twice_named on.now.fields (with_more choice.now.0 choice.now.2 (map given_case cases.items)
+        (literal, map field_of list.items)) ≡ true)) }
 {
     let tag = choice.tag().copy(alloc)?;
     let fields = on.fields().copy(alloc)?.into_vec();

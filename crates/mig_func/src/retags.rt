@@ -1,3 +1,4 @@
+//! Records whose tag has another literal, or one more.
 ghost use Rattle.std.specs.Prelude.{◌≡◌, Some, None, true, false, map, IfOk, IfErr};
 ghost use Rattle.mig_action.specs.FieldFn.{common, retag, add_case};
 ghost use Rattle.mig_action.specs.NewRecord.{new_by};
@@ -81,7 +82,8 @@ fn add_case(
     requires apart { found_case literal.now on.now.choice ≡ None }
     requires clear { are_clear (map field_of fields.now) ≡ true }
     ensures made { IfOk result (λ r. new_by (add_case literal.now (map field_of fields.now)) common on.now ≡ Some r) }
-    ensures misfit { IfErr result (λ e. IsFault e (new_by (add_case literal.now (map field_of fields.now)) common on.now ≡ None)) }
+    ensures misfit { IfErr result (λ e.
+        IsFault e (new_by (add_case literal.now (map field_of fields.now)) common on.now ≡ None)) }
 {
     on.keeps();
     let list = copy_fields(alloc, fields)?;
@@ -98,7 +100,8 @@ pub fn with_new_case(
     fields: &[Field],
 ) -> Result<Record, FuncFault>
     ensures made { IfOk result (λ r. new_by (add_case literal.now (map field_of fields.now)) common on.now ≡ Some r) }
-    ensures misfit { IfErr result (λ e. IsFault e (new_by (add_case literal.now (map field_of fields.now)) common on.now ≡ None)) }
+    ensures misfit { IfErr result (λ e.
+        IsFault e (new_by (add_case literal.now (map field_of fields.now)) common on.now ≡ None)) }
 {
     let Some(choice) = on.choice() else {
         return Err(FuncFault::Misfit);

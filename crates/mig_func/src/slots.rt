@@ -1,3 +1,4 @@
+//! What becomes of one field's presence and template.
 ghost use Rattle.std.specs.Prelude.{◌≡◌, ◌&&◌, Some, None, not, option_map, IfOk, IfErr};
 ghost use Rattle.mig_action.specs.FieldFn.{fill_template};
 ghost use Rattle.mig_action.specs.NewRecord.{leaf_after, leaf_of_both, learned, can_be_learned};
@@ -24,7 +25,9 @@ pub fn is_must(presence: Presence) -> bool
 
 /// Whether the field may be absent and then gets what it would have.
 fn can_fill(field: &Field, fill: &Fill) -> bool
-    ensures { result ≡ (not (is_must field.now.presence) && same_template (template_of field.now.template) (fill_template (fill_of fill.now))) }
+    ensures { result
+        ≡ (not (is_must field.now.presence) && same_template (template_of field.now.template) (fill_template
+        (fill_of fill.now))) }
 {
     !is_must(field.presence) && fill.is_of(&field.template)
 }
@@ -57,7 +60,9 @@ fn common_out(left: &LeafFn, one: Kind, right: &LeafFn, other: Kind) -> Option<K
 
 /// What two leaf functions make of the leaves of the two sides.
 fn both_after(left: &LeafFn, right: &LeafFn, one: &Template, other: &Template) -> Option<Template>
-    ensures { option_map template_of result ≡ leaf_of_both (leaf_fn_of left.now) (leaf_fn_of right.now) (sum (template_of one.now) (template_of other.now)) }
+    ensures { option_map template_of result
+        ≡ leaf_of_both (leaf_fn_of left.now) (leaf_fn_of right.now) (sum (template_of one.now)
+        (template_of other.now)) }
 {
     match one {
         Template::Leaf(one) => match other {
@@ -81,7 +86,8 @@ fn both_after(left: &LeafFn, right: &LeafFn, one: &Template, other: &Template) -
 
 /// What two leaf functions make of a sum of two leaves.
 fn leaf_of_both(left: &LeafFn, right: &LeafFn, template: &Template) -> Option<Template>
-    ensures { option_map template_of result ≡ leaf_of_both (leaf_fn_of left.now) (leaf_fn_of right.now) (template_of template.now) }
+    ensures { option_map template_of result
+        ≡ leaf_of_both (leaf_fn_of left.now) (leaf_fn_of right.now) (template_of template.now) }
 {
     match template {
         Template::Sum(one, other) => both_after(left, right, one.get(), other.get()),
@@ -107,8 +113,11 @@ pub fn slot_after(
     op: &FieldOp,
     field: &Field,
 ) -> Result<(Presence, Template), FuncFault>
-    ensures slot { IfOk result (λ s. slot_after (field_op_of op.now) (field.now.presence, template_of field.now.template) ≡ Some (s.0, template_of s.1)) }
-    ensures misfit { IfErr result (λ e. IsFault e (slot_after (field_op_of op.now) (field.now.presence, template_of field.now.template) ≡ None)) }
+    ensures slot { IfOk result (λ s.
+        slot_after (field_op_of op.now) (field.now.presence, template_of field.now.template)
+        ≡ Some (s.0, template_of s.1)) }
+    ensures misfit { IfErr result (λ e.
+        IsFault e (slot_after (field_op_of op.now) (field.now.presence, template_of field.now.template) ≡ None)) }
 {
     let presence = field.presence;
     match op {

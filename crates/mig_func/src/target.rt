@@ -1,3 +1,4 @@
+//! The new record of a field function.
 ghost use Rattle.std.specs.Prelude.{◌≡◌, Some, None, false, map, IfOk, IfErr};
 ghost use Rattle.mig_action.specs.FieldFn.{common, in_case};
 ghost use Rattle.mig_action.specs.NewRecord.{new_by, new_record};
@@ -68,7 +69,8 @@ impl FieldOp {
         requires same { on.now.choice ≡ Some choice.now }
         requires found { found_case literal.now on.now.choice ≡ Some fields.now }
         ensures made { IfOk result (λ r. new_by (field_op_of self.now) (in_case literal.now) on.now ≡ Some r) }
-        ensures misfit { IfErr result (λ e. IsFault e (new_by (field_op_of self.now) (in_case literal.now) on.now ≡ None)) }
+        ensures misfit { IfErr result (λ e. IsFault e (new_by (field_op_of self.now) (in_case literal.now) on.now
+            ≡ None)) }
     {
         on.keeps();
         match self.new_fields(alloc, fields, on.rest()) {
@@ -103,7 +105,8 @@ impl FieldOp {
     /// The record with the operation done to the fields of the case of the literal.
     fn on_case(&self, alloc: Global, on: &Record, literal: &Name) -> Result<Record, FuncFault>
         ensures made { IfOk result (λ r. new_by (field_op_of self.now) (in_case literal.now) on.now ≡ Some r) }
-        ensures misfit { IfErr result (λ e. IsFault e (new_by (field_op_of self.now) (in_case literal.now) on.now ≡ None)) }
+        ensures misfit { IfErr result (λ e. IsFault e (new_by (field_op_of self.now) (in_case literal.now) on.now
+            ≡ None)) }
     {
         let Some(choice) = on.choice() else {
             return Err(FuncFault::Misfit);

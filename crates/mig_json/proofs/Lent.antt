@@ -15,6 +15,7 @@ use Rattle.mig_json.specs.Save.{tree_of, trees_in, pairs_in}
 use Rattle.mig_json.specs.Kinds.{IsJson, AreJson, ArePairsJson}
 use Rattle.mig_model.specs.Keeps.{IsShort, Keeps, AllPairsKeep}
 use Rattle.mig_json.specs.Lending.{ahead}
+use Rattle.std.proofs.lemmas.Option.{same_Some}
 
 abbrev pub Pair : Type 0
 Pair = List ℕ × Plain
@@ -30,13 +31,10 @@ record Split (k : List ℕ) (t : Option Plain) (ps : Option (List Pair)) (all : 
   pub others_are : ps ≡ Some others
   pub all_are : all ≡ (k, first) ∷ others
 
-some_is : {A : Type 0} (x y : A) → Some x ≡ Some y → x ≡ y
-some_is x y e = cc
-
 split : (k : List ℕ) (t : Option Plain) (ps : Option (List Pair)) (all : List Pair) → joined k t ps ≡ Some all → Split k t ps all
 split k None ps all e = absurd cc
 split k (Some x) None all e = absurd cc
-split k (Some x) (Some xs) all e = record { first = x; others = xs; first_is = refl; others_are = refl; all_are = sym (some_is ((k, x) ∷ xs) all e) }
+split k (Some x) (Some xs) all e = record { first = x; others = xs; first_is = refl; others_are = refl; all_are = sym (same_Some ((k, x) ∷ xs) all e) }
 
 joins : (k : List ℕ) (t : Option Plain) (ps : Option (List Pair)) (x : Plain) (xs : List Pair) → t ≡ Some x → ps ≡ Some xs → joined k t ps ≡ Some ((k, x) ∷ xs)
 joins k t ps x xs e f = rw (e, f) refl
@@ -44,7 +42,7 @@ joins k t ps x xs e f = rw (e, f) refl
 pub pairs_push : (done : List Entry) (e : Entry) (ps : List Pair) (t : Plain) → pairs_in (members_view done) ≡ Some ps → tree_of (view e.1) ≡ Some t
     → pairs_in (members_view (done ++ e ∷ [])) ≡ Some (ps ++ (string_bytes e.0, t) ∷ [])
 pairs_push [] e ps t h is =
-    let none : [] ≡ ps = some_is [] ps h in
+    let none : [] ≡ ps = same_Some [] ps h in
     subst (λ (xs : List Pair). joined (string_bytes e.0) (tree_of (view e.1)) (Some []) ≡ Some (xs ++ (string_bytes e.0, t) ∷ [])) none (rw is refl)
 pairs_push (d ∷ done) e ps t h is =
     let s = split (string_bytes d.0) (tree_of (view d.1)) (pairs_in (members_view done)) ps h in
@@ -64,7 +62,7 @@ pairs_ahead front e left t total is h =
 
 above : (k : List ℕ) (es : List Entry) (ps : List Pair) → pairs_in (members_view es) ≡ Some ps → AllByRecursion (λ y. by_bytes k (string_bytes y) ≡ Less) (keys_of es)
     → AllByRecursion (λ y. by_bytes k y ≡ Less) (keys_of ps)
-above k [] ps h all = subst (λ (xs : List Pair). AllByRecursion (λ y. by_bytes k y ≡ Less) (keys_of xs)) (some_is [] ps h) tt
+above k [] ps h all = subst (λ (xs : List Pair). AllByRecursion (λ y. by_bytes k y ≡ Less) (keys_of xs)) (same_Some [] ps h) tt
 above k (e ∷ es) ps h all =
     let s = split (string_bytes e.0) (tree_of (view e.1)) (pairs_in (members_view es)) ps h in
     subst (λ (xs : List Pair). AllByRecursion (λ y. by_bytes k y ≡ Less) (keys_of xs)) (sym s.all_are) (all.0, above k es s.others s.others_are all.1)
@@ -72,7 +70,7 @@ above k (e ∷ es) ps h all =
 -- an object's names ascend by bytes
 pub pairs_named : (es : List Entry) (ps : List Pair) → pairs_in (members_view es) ≡ Some ps → IsStrictlySortedBy string_cmp (keys_of es) → IsNamed ps
 unfolding IsStrictlySortedBy
-pairs_named [] ps h sorted = subst (λ (xs : List Pair). IsNamed xs) (some_is [] ps h) tt
+pairs_named [] ps h sorted = subst (λ (xs : List Pair). IsNamed xs) (same_Some [] ps h) tt
 pairs_named (e ∷ es) ps h sorted =
     let s = split (string_bytes e.0) (tree_of (view e.1)) (pairs_in (members_view es)) ps h in
     subst (λ (xs : List Pair). IsNamed xs) (sym s.all_are) (above (string_bytes e.0) es s.others s.others_are sorted.0, pairs_named es s.others s.others_are sorted.1)

@@ -1,3 +1,4 @@
+//! Why bytes are no save.
 ghost use Rattle.std.specs.Prelude.{◌≡◌};
 ghost use Rattle.mig_json.specs.declared.error.JsonError.TheVariants.{Memory};
 

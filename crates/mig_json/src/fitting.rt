@@ -1,3 +1,4 @@
+//! Which values of `serde_json` are trees: every number in them is whole, of 64 bits.
 ghost use Rattle.std.specs.Prelude.{◌≡◌, is_some};
 ghost use Rattle.serde_json.specs.View.{view, items_view, members_view};
 ghost use Rattle.mig_json.specs.Save.{tree_of, trees_in, pairs_in};

@@ -1,3 +1,4 @@
+//! The tree of a document, which lends its texts.
 ghost use Rattle.std.specs.Prelude.{◌≡◌, IfOk};
 ghost use Rattle.serde_json.specs.View.{view, items_view, members_view};
 ghost use Rattle.mig_model.specs.Plain.{trees_of, pairs_of};

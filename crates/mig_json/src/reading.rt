@@ -1,3 +1,4 @@
+//! Documents: the bytes of a save, parsed.
 ghost use Rattle.std.specs.Prelude.{◌≡◌, Err, IfOk};
 ghost use Rattle.mig_model.specs.Plain.{Plain};
 ghost use Rattle.mig_model.specs.Kinds.{IsMap};

@@ -1,3 +1,4 @@
+//! Doubtful texts, and what is written of them.
 use crate::{JsonError, parse, write};
 use std::alloc::Global;
 use std::test::Fail;

@@ -13,9 +13,11 @@ use Rattle.mig_model.specs.Template.{Template, leaf, any, list, point, rec, sum,
 use Rattle.mig_model.specs.Inhabits.{Entries, EachItem, IsListOf, EachEntry, IsMapOf, has_tag, has_text, is_in_form, has_musts, has_case, is_complete, Unknown, Fits, FieldsFit, ChoiceFits, CasesFit, InhabitsWithin}
 use Rattle.mig_model.specs.Place.{Place, PlaceStep, Wrong, named, index, sooner, under, or_else, wrong_item, within_list, within_map, at_name, wrong_entry, missing, missing_in_case, is_literal, is_tagged, wrong_map, unless, wrong, wrong_fields, wrong_choice, wrong_cases, place_within}
 use Rattle.mig_laws.specs.Sides.{SumsApart, FieldsApart, ChoiceApart, CasesApart}
-use Rattle.mig_laws.proofs.Tests.{split_and, both_true, same_kind_is, same_kind_itself}
+use Rattle.mig_laws.proofs.Tests.{same_kind_is}
 use Rattle.mig_laws.proofs.Sides.{kind_told}
 use Rattle.mig_laws.proofs.Inhabitants.{RecordFits}
+use Rattle.mig_model.proofs.Bools.{split_and, both_true}
+use Rattle.mig_model.proofs.SameNames.{same_kind_itself}
 
 -- each test of `wrong` and what it says
 if_none : (b : Bool) (A B : Type 0) (x y : Option Place) → (x ≡ None) ↔ A → (y ≡ None) ↔ B → ((if b then x else y) ≡ None) ↔ MatchBool b A B
@@ -32,7 +34,7 @@ sides_none A B true q x y a b d e f = (λ s. inl (e.0 s), λ s. elim s [ inl z �
 sides_none A B false true x y a b d e f = (λ s. inr (f.0 s), λ s. elim s [ inl z ↦ absurd (true≢false (sym (a z))) | inr z ↦ f.1 z ])
 sides_none A B false false x y a b d e f = (λ s. absurd (cc), λ s. elim s [ inl z ↦ absurd (true≢false (sym (a z))) | inr z ↦ absurd (true≢false (sym (b z))) ])
 
-or_none : (a b : Option Place) → or_else a b ≡ None → (a ≡ None) × (b ≡ None)
+pub or_none : (a b : Option Place) → or_else a b ≡ None → (a ≡ None) × (b ≡ None)
 or_none None b e = (refl, e)
 or_none (Some p) b e = absurd (cc)
 
@@ -84,7 +86,7 @@ case_none tag (case l fs cs) kept es = go (has_tag tag l es) (case_none tag cs k
     go true e = (λ f. (refl, (missing_none fs es).1 f), λ f. (missing_none fs es).0 f.1)
     go false e = e
 
-sooner_none : (a b : Wrong) → sooner a b ≡ None → (a ≡ None) × (b ≡ None)
+pub sooner_none : (a b : Wrong) → sooner a b ≡ None → (a ≡ None) × (b ≡ None)
 sooner_none None b e = (refl, e)
 sooner_none (Some a) None e = absurd (cc)
 sooner_none (Some a) (Some b) e = go (is_lt (by_bytes b.0 a.0)) e

@@ -9,7 +9,9 @@ use Rattle.mig_model.specs.declared.kind.Kind.TheVariants as K
 use Rattle.mig_model.specs.Template.{Template, leaf, any, list, point, rec, sum, Fields, no_field, field, Choice, no_choice, choice, Cases, no_case, case, same_name, is_of_form, is_leaf, has_kind}
 use Rattle.mig_model.specs.Family.{Family, find_type, body, any_inside, any_in_fields, any_in_choice, any_in_cases, kinds, is_wrong_leaf, is_point, has_point_side, sides_overlap, Flaw, twice_named, too_many, too_deep, wrong_kind, unknown_name, unguarded, sum_overlap, mixed_list, root_not_record, version_path, version_name_used, any_type, has_flaw, flaws, first_of, IsFormed}
 use Rattle.mig_laws.specs.Sides.{is_guarded, is_side, AreSides, SumsApart, FieldsApart, ChoiceApart, CasesApart}
-use Rattle.mig_laws.proofs.Tests.{split_and, split_or, both_true, same_kind_itself}
+use Rattle.std.proofs.lemmas.Bool.{not-false}
+use Rattle.mig_model.proofs.Bools.{split_and, split_or, both_true}
+use Rattle.mig_model.proofs.SameNames.{same_kind_itself}
 
 -- a formed family has none of the eleven faults
 none_of : (ws : List Flaw) (f : Family) → first_of ws f ≡ None → AllByRecursion (λ w. has_flaw w f ≡ false) ws
@@ -99,13 +101,9 @@ map_of_form : (form : Form) → is_of_form form K.Map ≡ true
 map_of_form F.Nbt = refl
 map_of_form F.Json = refl
 
-not_false : (b : Bool) → not b ≡ false → b ≡ true
-not_false true e = refl
-not_false false e = absurd (true≢false e)
-
 -- a guarded template has a root kind of the form
 pub some_kind : (form : Form) (V : Template) → is_guarded V ≡ true → any_inside (is_wrong_leaf form) V ≡ false → (k : Kind) × (has_kind form V k ≡ true) × (is_of_form form k ≡ true)
-some_kind form (leaf k) g e = (k, same_kind_itself k, (split_and (is_leaf k) (is_of_form form k) (not_false (is_leaf k && is_of_form form k) e)).1)
+some_kind form (leaf k) g e = (k, same_kind_itself k, (split_and (is_leaf k) (is_of_form form k) (not-false (is_leaf k && is_of_form form k) e)).1)
 some_kind form any g e = (K.Text, text_of_form form, text_of_form form)
 some_kind form (list V) g e = (K.List, refl, list_of_form form)
 some_kind form (point n) g e = absurd (true≢false (sym g))

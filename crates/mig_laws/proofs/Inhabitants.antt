@@ -7,8 +7,9 @@ use Rattle.mig_model.specs.Plain.{Plain, items, entries}
 use Rattle.mig_model.specs.Template.{Template, leaf, any, list, point, rec, sum, Fields, no_field, field, Choice, no_choice, choice, Cases, no_case, case, same_name}
 use Rattle.mig_model.specs.Inhabits.{Entries, EachItem, IsListOf, EachEntry, IsMapOf, has_tag, is_complete, Unknown, Fits, FieldsFit, ChoiceFits, CasesFit, depth, InhabitsWithin, Inhabits}
 use Rattle.mig_laws.specs.Sides.{is_guarded}
-use Rattle.mig_laws.proofs.Tests.{split_and, match_map}
+use Rattle.mig_laws.proofs.Tests.{match_map}
 use Rattle.mig_laws.proofs.Parts.{PartsHave, PassesDown, Whatever, whatever_down, depth_down, parts_below}
+use Rattle.mig_model.proofs.Bools.{split_and}
 
 module _ (R : Plain → Type 0) where
   pub items_where : (A B : Plain → Type 0) → ((t : Plain) → R t → A t → B t) → (ts : List Plain) → EachItem R ts → EachItem A ts → EachItem B ts

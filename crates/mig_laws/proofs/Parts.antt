@@ -7,7 +7,7 @@ use Rattle.mig_model.specs.Plain.{Plain, Trees, no_tree, tree, Pairs, no_pair, p
 use Rattle.mig_model.specs.Kinds.{kind_of}
 use Rattle.mig_model.specs.Template.{is_of_form}
 use Rattle.mig_model.specs.Inhabits.{Entries, EachItem, EachEntry, may_be_items, is_in_form, items_in_form, entries_in_form, depth, items_depth, entries_depth}
-use Rattle.mig_laws.proofs.Tests.{split_and}
+use Rattle.mig_model.proofs.Bools.{split_and}
 
 -- each item of the list, or each tree of the map, has the property; any other tree has no parts
 abbrev pub PartsHave : (Plain → Type 0) → Plain → Type 0

@@ -8,15 +8,9 @@ use Rattle.mig_model.specs.Kinds.{kind_of}
 use Rattle.mig_model.specs.Template.{Template, leaf, any, list, point, rec, sum, same_kind, has_kind}
 use Rattle.mig_model.specs.Inhabits.{Fits}
 use Rattle.mig_laws.specs.Sides.{is_guarded, is_side, AreSides}
-use Rattle.mig_laws.proofs.Tests.{split_and, same_kind_itself}
 use Rattle.mig_laws.proofs.Parts.{root_of_form}
-
-left_or : (a b : Bool) → a ≡ true → (a || b) ≡ true
-left_or a b e = rw e refl
-
-right_or : (a b : Bool) → b ≡ true → (a || b) ≡ true
-right_or true b e = refl
-right_or false b e = e
+use Rattle.mig_model.proofs.Bools.{split_and, left_or, right_or}
+use Rattle.mig_model.proofs.SameNames.{same_kind_itself}
 
 -- a tree that fits a side has one of its root kinds
 pub kind_told : (form : Form) (P : List ℕ → Plain → Type 0) (V : Template) (t : Plain) → is_side V ≡ true → Fits form P V t → has_kind form V (kind_of t) ≡ true

@@ -13,7 +13,7 @@ use Rattle.mig_model.specs.Template.{same_name}
 use Rattle.mig_model.specs.Inhabits.{Entries, is_in_form, entries_in_form}
 use Rattle.mig_model.specs.Family.{last_name}
 use Rattle.mig_model.specs.Version.{on_spot, strip, put}
-use Rattle.mig_laws.proofs.Tests.{split_and, both_true}
+use Rattle.mig_model.proofs.Bools.{split_and, both_true}
 
 module _ (form : Form) where
   abbrev AreOfForm : Entries → Type 0

@@ -10,8 +10,9 @@ use Rattle.mig_model.specs.Template.{Template, leaf, any, list, point, rec, sum,
 use Rattle.mig_model.specs.Inhabits.{Entries, EachItem, EachEntry, has_tag, depth}
 use Rattle.mig_model.specs.Place.{Place, index, or_else, wrong_item, within_list, within_map, at_name, wrong_entry, wrong_map, wrong, wrong_fields, wrong_choice, wrong_cases, place_within}
 use Rattle.mig_laws.specs.Sides.{is_guarded}
-use Rattle.mig_laws.proofs.Tests.{split_and, if_agree}
+use Rattle.mig_laws.proofs.Tests.{if_agree}
 use Rattle.mig_laws.proofs.Parts.{PartsHave, PassesDown, depth_down, parts_below}
+use Rattle.mig_model.proofs.Bools.{split_and}
 
 module _ (R : Plain → Type 0) where
   item_agree : (w v : Plain → Option Place) → ((t : Plain) → R t → w t ≡ v t) → (i : ℕ) (ts : List Plain) → EachItem R ts → wrong_item w i ts ≡ wrong_item v i ts

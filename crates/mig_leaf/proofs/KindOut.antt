@@ -11,8 +11,9 @@ use Rattle.mig_model.specs.Const.{Const, const_kind, const_tree}
 use Rattle.mig_model.specs.Leaf.{LeafFn, is_text, constant, plus, times, clamp_to, to_kind, to_text, of_text, table, prefix, strip, lower, is_whole_number, is_in, clamp, clamped, number_tree, spelled, text_of, leaf_out, leaf_value}
 use Rattle.mig_model.specs.Template.{same_kind, is_leaf}
 use Rattle.mig_leaf.proofs.Numbers.{clamped_between}
+use Rattle.mig_model.proofs.Bools.{first_true, second_true}
 
-const_has_kind : (c : Const) → kind_of (const_tree c) ≡ const_kind c
+pub const_has_kind : (c : Const) → kind_of (const_tree c) ≡ const_kind c
 const_has_kind (model.byte z) = refl
 const_has_kind _ = refl
 
@@ -28,14 +29,6 @@ read_has_kind : (c : Const) (o : Option ℤ) → is_whole_number (const_kind c) 
 read_has_kind c None h = const_has_kind c
 read_has_kind c (Some z) h = number_has_kind (const_kind c) z h
 
-first_holds : (a b : Bool) → (a && b) ≡ true → a ≡ true
-first_holds true b h = refl
-first_holds false b h = h
-
-second_holds : (a b : Bool) → (a && b) ≡ true → b ≡ true
-second_holds true b h = h
-second_holds false b h = absurd (let no : false ≡ true = h in cc)
-
 -- where the test holds, the kind that it gives is the value's
 out_is : (b : Bool) (k j : Kind) → IsTrue (is_some (then_some b k)) → (b ≡ true → j ≡ k) → then_some b k ≡ Some j
 out_is true k j h is = ap Some (sym (is refl))
@@ -48,12 +41,12 @@ value_has_kind (times n) t h = out_is (is_whole_number (kind_of t)) (kind_of t) 
 value_has_kind (clamp_to low high) t h =
     let k = kind_of t in
     out_is (is_whole_number k && is_in k low && is_in k high && int_le low high) k _ h
-    (λ e. number_has_kind k _ (first_holds (is_whole_number k) (is_in k low) (first_holds (is_whole_number k && is_in k low) (is_in k high) (first_holds (is_whole_number k && is_in k low && is_in k high) (int_le low high) e))))
-value_has_kind (to_kind j) t h = out_is (is_whole_number j && is_whole_number (kind_of t)) j _ h (λ e. number_has_kind j _ (first_holds (is_whole_number j) (is_whole_number (kind_of t)) e))
+    (λ e. number_has_kind k _ (first_true (is_whole_number k) (is_in k low) (first_true (is_whole_number k && is_in k low) (is_in k high) (first_true (is_whole_number k && is_in k low && is_in k high) (int_le low high) e))))
+value_has_kind (to_kind j) t h = out_is (is_whole_number j && is_whole_number (kind_of t)) j _ h (λ e. number_has_kind j _ (first_true (is_whole_number j) (is_whole_number (kind_of t)) e))
 value_has_kind to_text t h = out_is (is_whole_number (kind_of t) || same_kind K.Bool (kind_of t) || is_text (kind_of t)) K.Text K.Text h (λ _. refl)
 value_has_kind (of_text c) t h =
     out_is (is_text (kind_of t) && is_whole_number (const_kind c)) (const_kind c) _ h
-    (λ e. read_has_kind c (spelled (const_kind c) (text_of t)) (second_holds (is_text (kind_of t)) (is_whole_number (const_kind c)) e))
+    (λ e. read_has_kind c (spelled (const_kind c) (text_of t)) (second_true (is_text (kind_of t)) (is_whole_number (const_kind c)) e))
 value_has_kind (table ps) t h = out_is (is_text (kind_of t)) K.Text K.Text h (λ _. refl)
 value_has_kind (prefix p) t h = out_is (is_text (kind_of t)) K.Text K.Text h (λ _. refl)
 value_has_kind (strip p) t h = out_is (is_text (kind_of t)) K.Text K.Text h (λ _. refl)
@@ -70,7 +63,7 @@ test_holds false k h = absurd (let no : false ≡ true = h in cc)
 pub clamp_value : (k : Kind) (low high z : ℤ) → IsTrue (is_some (leaf_out (clamp_to low high) k)) → clamped k (clamp low high z) ≡ number_tree k (clamp low high z)
 clamp_value k low high z h =
     let all = test_holds (is_whole_number k && is_in k low && is_in k high && int_le low high) k h in
-    let three = first_holds (is_whole_number k && is_in k low && is_in k high) (int_le low high) all in
-    let two = first_holds (is_whole_number k && is_in k low) (is_in k high) three in
-    clamped_between k low high z (second_holds (is_whole_number k) (is_in k low) two) (second_holds (is_whole_number k && is_in k low) (is_in k high) three)
-    (second_holds (is_whole_number k && is_in k low && is_in k high) (int_le low high) all)
+    let three = first_true (is_whole_number k && is_in k low && is_in k high) (int_le low high) all in
+    let two = first_true (is_whole_number k && is_in k low) (is_in k high) three in
+    clamped_between k low high z (second_true (is_whole_number k) (is_in k low) two) (second_true (is_whole_number k && is_in k low) (is_in k high) three)
+    (second_true (is_whole_number k && is_in k low && is_in k high) (int_le low high) all)

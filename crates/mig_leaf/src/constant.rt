@@ -1,3 +1,4 @@
+//! Constants.
 ghost use Rattle.std.specs.Prelude.{◌≡◌, IfOk};
 
 use mig_tree::{Kind, Memory, Name, Text, Tree};

@@ -1,3 +1,4 @@
+//! The eleven leaf functions.
 ghost use Rattle.std.specs.Prelude.{◌≡◌, IfOk, IsTrue, is_some, Some};
 ghost use Rattle.mig_tree.specs.View.{plain_of};
 ghost use Rattle.mig_model.specs.Kinds.{kind_of};
@@ -124,7 +125,8 @@ impl LeafFn {
     pub fn apply<'a>(&'a self, alloc: Global, tree: Tree<'a>) -> Result<Tree<'a>, Memory>
         requires { IsTrue (is_some (leaf_out (leaf_fn_of self.now) (kind_of (plain_of tree)))) }
         ensures value { IfOk result (λ t. plain_of t ≡ leaf_value (leaf_fn_of self.now) (plain_of tree.entry)) }
-        ensures kind { IfOk result (λ t. leaf_out (leaf_fn_of self.now) (kind_of (plain_of tree.entry)) ≡ Some (kind_of (plain_of t))) }
+        ensures kind { IfOk result (λ t. leaf_out (leaf_fn_of self.now) (kind_of (plain_of tree.entry))
+            ≡ Some (kind_of (plain_of t))) }
     {
         let kind = tree.kind();
         match self {

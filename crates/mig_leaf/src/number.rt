@@ -1,3 +1,4 @@
+//! Whole numbers: their ranges, and their texts.
 ghost use Rattle.std.specs.Prelude.{◌≡◌, ◌↔◌, ◌&&◌, ℤ, int_le, IsTrue, IfOk, IfSome, Some, FitsSigned};
 ghost use Rattle.std.specs.Int.{w64};
 ghost use Rattle.std.specs.Fmt.{signed_decimal};

@@ -1,3 +1,4 @@
+//! Leaf functions at the bounds of their kinds.
 use crate::{Const, LeafFn};
 use mig_tree::{Kind, Memory, Name, Text, Tree};
 use std::alloc::Global;

@@ -1,3 +1,4 @@
+//! Texts that leaf functions make.
 ghost use Rattle.std.specs.Prelude.{◌≡◌, IfOk, map, option_map, unwrap_or};
 ghost use Rattle.mig_model.specs.Kinds.{kind_of};
 ghost use Rattle.mig_tree.specs.View.{plain_of};

@@ -17,71 +17,11 @@ use Rattle.std_collections.proofs.Seek.{found_at, insert_entry_err, sorted_inser
 use Rattle.std_collections.proofs.Entries.{NonePasses, lookup-none}
 use Rattle.mig_model.specs.Plain.{Plain}
 use Rattle.mig_model.specs.Names.{by_bytes, IsNamed, with_pair, found, gathered}
+use Rattle.mig_model.proofs.OneOrder.{one_order}
+use Rattle.std.proofs.lemmas.Option.{same_Some}
 
 abbrev Pairing : Type 0
 Pairing = List ℕ × Plain
-
--- the pair is one of these
-abbrev pub Among : Pairing → List Pairing → Type 0
-Among x [] = ⊥
-Among x (y ∷ ys) = (y ≡ x) ⊎ Among x ys
-
-among_at : (ys : List Pairing) (x : Pairing) (k : ℕ) → k < length ys → get_or ys k x ≡ x → Among x ys
-among_at [] x k l e = absurd (omega arith)
-among_at (y ∷ ys) x zero l e = inl e
-among_at (y ∷ ys) x (suc k) l e = inr (among_at ys x k (omega arith) e)
-
-contained : (ys : List Pairing) (x : Pairing) → Among x ys → Contains ys x
-contained [] x a = absurd a
-contained (y ∷ ys) x (inl e) = (0, omega arith, e)
-contained (y ∷ ys) x (inr a) = let p = contained ys x a in (suc p.0, omega (arith, p.1), p.2)
-
-moved : (xs ys : List Pairing) (x : Pairing) → IsPermutation xs ys → Among x xs → Among x ys
-moved xs ys x p a = let c = Contains-permutation xs ys x p (contained xs x a) in among_at ys x c.0 c.1 c.2
-
--- a pair behind the first has a greater name
-behind : (q : Pairing) (ys : List Pairing) (x : Pairing) → AllByRecursion (λ y. by_bytes q.0 y ≡ Less) (keys_of ys) → Among x ys → by_bytes q.0 x.0 ≡ Less
-behind q [] x h a = absurd a
-behind q (y ∷ ys) x h (inl e) = ap (λ (z : Pairing). by_bytes q.0 z.0) (sym e) ∙ h.0
-behind q (y ∷ ys) x h (inr a) = behind q ys x h.1 a
-
-not_both : (x y : List ℕ) → by_bytes x y ≡ Less → by_bytes y x ≡ Less → ⊥
-not_both x y a b = let e : Less ≡ Greater = sym a ∙ nat_list_cmp_total.antisymm x y ∙ ap ordering_reverse b in absurd cc
-
-not_itself : (x : List ℕ) → by_bytes x x ≡ Less → ⊥
-not_itself x a = not_both x x a a
-
-same_members : (a b : List Pairing) → IsNamed a → IsNamed b → ((x : Pairing) → Among x a → Among x b) → ((x : Pairing) → Among x b → Among x a) → a ≡ b
-same_members [] [] s t f g = refl
-same_members [] (q ∷ b) s t f g = absurd (g q (inl refl))
-same_members (p ∷ a) [] s t f g = absurd (f p (inl refl))
-same_members (p ∷ a) (q ∷ b) s t f g =
-    let above_p = sorted_head by_bytes p.0 (keys_of a) s in
-    let above_q = sorted_head by_bytes q.0 (keys_of b) t in
-    let first : p ≡ q = one (f p (inl refl)) (g q (inl refl)) above_p above_q in
-    λ i. first i ∷ same_members a b (sorted_tail by_bytes p.0 (keys_of a) s) (sorted_tail by_bytes q.0 (keys_of b) t)
-    (λ x m. rest x p q above_p m (sym first) (f x (inr m)))
-    (λ x m. rest' x q p above_q m first (g x (inr m))) i
-  where
-    one : Among p (q ∷ b) → Among q (p ∷ a) → AllByRecursion (λ y. by_bytes p.0 y ≡ Less) (keys_of a) → AllByRecursion (λ y. by_bytes q.0 y ≡ Less) (keys_of b) → p ≡ q
-    one (inl e) n h k = sym e
-    one (inr m) (inl e) h k = e
-    one (inr m) (inr n) h k = absurd (not_both q.0 p.0 (behind q b p k m) (behind p a q h n))
-
-    rest : (x p' q' : Pairing) → AllByRecursion (λ y. by_bytes p'.0 y ≡ Less) (keys_of a) → Among x a → q' ≡ p' → Among x (q' ∷ b) → Among x b
-    rest x p' q' h m same (inr n) = n
-    rest x p' q' h m same (inl e) = absurd (not_itself p'.0 (subst (λ (z : Pairing). by_bytes p'.0 z.0 ≡ Less) (sym e ∙ same) (behind p' a x h m)))
-
-    rest' : (x q' p' : Pairing) → AllByRecursion (λ y. by_bytes q'.0 y ≡ Less) (keys_of b) → Among x b → p' ≡ q' → Among x (p' ∷ a) → Among x a
-    rest' x q' p' h m same (inr n) = n
-    rest' x q' p' h m same (inl e) = absurd (not_itself q'.0 (subst (λ (z : Pairing). by_bytes q'.0 z.0 ≡ Less) (sym e ∙ same) (behind q' b x h m)))
-
--- pairs have at most one order in which their names ascend
-pub one_order : (xs a b : List Pairing) → IsPermutation xs a → IsPermutation xs b → IsNamed a → IsNamed b → a ≡ b
-one_order xs a b p q s t =
-    same_members a b s t
-    (λ x m. moved a b x (IsPermutation-trans a xs b (IsPermutation-sym xs a p) q) m)
-    (λ x m. moved b a x (IsPermutation-trans b xs a (IsPermutation-sym xs b q) p) m)
 
 -- a name that isn't there goes to a place
 place_of : (name : List ℕ) (t : Plain) (ps : List Pairing) → found name ps ≡ None → (r : Result ℕ ℕ) → seek (by_bytes name) ps ≡ r → (i : ℕ) × (seek (by_bytes name) ps ≡ Err i)
@@ -111,17 +51,14 @@ step_at q ps o = if is_some o then None else Some (with_pair q.0 q.1 ps)
 abbrev step : Pairing → Option (List Pairing) → Option (List Pairing)
 step q o = option_and_then (λ ps. step_at q ps (found q.0 ps)) o
 
-some_is : (a b : List Pairing) → Some a ≡ Some b → a ≡ b
-some_is a b e = cc
-
 pub gathered_sound : (qs ps : List Pairing) → gathered qs ≡ Some ps → IsPermutation qs ps × IsNamed ps
-gathered_sound [] ps e = let is : [] ≡ ps = some_is [] ps e in (subst (IsPermutation []) is (IsPermutation-refl []), subst IsNamed is unnamed)
+gathered_sound [] ps e = let is : [] ≡ ps = same_Some [] ps e in (subst (IsPermutation []) is (IsPermutation-refl []), subst IsNamed is unnamed)
 gathered_sound (q ∷ qs) ps e = by (gathered qs) refl (gathered_sound qs) e
   where
     new : (rs : List Pairing) → IsPermutation qs rs × IsNamed rs → (o : Option Plain) → found q.0 rs ≡ o → step_at q rs o ≡ Some ps → IsPermutation (q ∷ qs) ps × IsNamed ps
     new rs known None none e' =
         let more = put_new q.0 q.1 rs known.1 none in
-        let is : with_pair q.0 q.1 rs ≡ ps = some_is (with_pair q.0 q.1 rs) ps e' in (
+        let is : with_pair q.0 q.1 rs ≡ ps = same_Some (with_pair q.0 q.1 rs) ps e' in (
           subst (IsPermutation (q ∷ qs)) is (IsPermutation-trans (q ∷ qs) (q ∷ rs) (with_pair q.0 q.1 rs) (IsPermutation-cons q qs rs known.0) more.0),
           subst IsNamed is more.1,
         )

@@ -1,4 +1,9 @@
 pub mod Ascending
-pub mod Searches
-pub mod Rising
+pub mod Bools
+pub mod Entries
 pub mod Loops
+pub mod OneOrder
+pub mod Options
+pub mod Rising
+pub mod SameNames
+pub mod Searches

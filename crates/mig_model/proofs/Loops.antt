@@ -5,6 +5,7 @@ use Rattle.std.specs.Iterator.{Yields}
 use Rattle.std.specs.Vec.Iter.{into_iter_items, into_iter_len, into_iter_steps}
 use Rattle.std.proofs.lemmas.Iterator.Adapters.{YieldsList-from_vec}
 use Rattle.std.proofs.lemmas.Iterator.Consumers.{YieldsList-turn, YieldsList-so_far, YieldsList-end}
+use Rattle.std.proofs.lemmas.List.{map-id}
 
 first_is : {A : Type 0} (x y : A) (xs ys : List A) → x ∷ xs ≡ y ∷ ys → x ≡ y
 first_is x y xs ys e = cc
@@ -27,15 +28,11 @@ in_hand {A} {Z} s t u all xs x items len y r is p =
     let turn = YieldsList-turn whole xs t y r u x is p in
     split all xs x (YieldsList-so_far whole xs t y) turn.0 turn.1
 
-same_list : {A : Type 0} (xs : List A) → map (λ y. y) xs ≡ xs
-same_list [] = refl
-same_list (x ∷ xs) = ap (λ l. x ∷ l) (same_list xs)
-
 -- a `for` over a vector ends when all is behind it
 pub all_behind : {A Z : Type 0} (s t u : _) (all xs : List A) → into_iter_items s ≡ all → into_iter_len s ≡ length all → Yields (into_iter_steps {X = A} {Z = Z}) s xs t → (r : Option A) → r ≡ None → into_iter_steps {X = A} {Z = Z} t r u → xs ≡ all
 all_behind {A} {Z} s t u all xs items len y r is p =
     let whole = YieldsList-from_vec {A = A} {Z = Z} {s = s} all items len in
-    sym (same_list xs) ∙ (YieldsList-end whole xs t y r u is p).0
+    sym (map-id xs) ∙ (YieldsList-end whole xs t y r u is p).0
 
 -- how many were yielded before the item in hand
 pub fewer : {A : Type 0} (all xs : List A) (x : A) → (rest : List A) × (all ≡ xs ++ x ∷ rest) → length xs < length all

@@ -4,20 +4,8 @@ use Rattle.std.specs.Coded.{Coded, code_by, coded_ℕ, coded_ℤ, coded_bool, co
 use Rattle.std.proofs.Common.{ap, ap₂, arith}
 use base.Stored.{Gv, gnil, gnum, gcons, num}
 use Rattle.mig_model.specs.Plain.{Plain, byte, short, int, long, float, double, text, bytes, ints, longs, list, map, null, boolean, whole, Trees, no_tree, tree, Pairs, no_pair, pair}
+use Rattle.mig_model.specs.Stored.{head, tail, coded_name}
 use Rattle.mig_model.specs.Place.{PlaceStep, Place, named, index}
-
-abbrev bs : Coded (List ℕ)
-bs = coded_list coded_ℕ
-
-abbrev head : Gv → Gv
-head gnil = gnil
-head (gnum n) = gnil
-head (gcons a b) = a
-
-abbrev tail : Gv → Gv
-tail gnil = gnil
-tail (gnum n) = gnil
-tail (gcons a b) = b
 
 abbrev mutual
   pub code_plain : Plain → Gv
@@ -27,10 +15,10 @@ abbrev mutual
   code_plain (long z) = gcons (gnum 3) (coded_ℤ.code z)
   code_plain (float n) = gcons (gnum 4) (gnum n)
   code_plain (double n) = gcons (gnum 5) (gnum n)
-  code_plain (text b) = gcons (gnum 6) (bs.code b)
-  code_plain (bytes b) = gcons (gnum 7) (bs.code b)
-  code_plain (ints b) = gcons (gnum 8) (bs.code b)
-  code_plain (longs b) = gcons (gnum 9) (bs.code b)
+  code_plain (text b) = gcons (gnum 6) (coded_name.code b)
+  code_plain (bytes b) = gcons (gnum 7) (coded_name.code b)
+  code_plain (ints b) = gcons (gnum 8) (coded_name.code b)
+  code_plain (longs b) = gcons (gnum 9) (coded_name.code b)
   code_plain (list ts) = gcons (gnum 10) (code_trees ts)
   code_plain (map ps) = gcons (gnum 11) (code_pairs ps)
   code_plain null = gcons (gnum 12) gnil
@@ -43,7 +31,7 @@ abbrev mutual
 
   pub code_pairs : Pairs → Gv
   code_pairs no_pair = gnil
-  code_pairs (pair k t ps) = gcons (gcons (bs.code k) (code_plain t)) (code_pairs ps)
+  code_pairs (pair k t ps) = gcons (gcons (coded_name.code k) (code_plain t)) (code_pairs ps)
 
 mutual
   pub inj_plain : (x y : Plain) → code_plain x ≡ code_plain y → x ≡ y
@@ -53,10 +41,10 @@ mutual
   inj_plain (long a) (long b) p = ap long (coded_ℤ.inj a b (ap tail p))
   inj_plain (float a) (float b) p = ap float (coded_ℕ.inj a b (ap tail p))
   inj_plain (double a) (double b) p = ap double (coded_ℕ.inj a b (ap tail p))
-  inj_plain (text a) (text b) p = ap text (bs.inj a b (ap tail p))
-  inj_plain (bytes a) (bytes b) p = ap bytes (bs.inj a b (ap tail p))
-  inj_plain (ints a) (ints b) p = ap ints (bs.inj a b (ap tail p))
-  inj_plain (longs a) (longs b) p = ap longs (bs.inj a b (ap tail p))
+  inj_plain (text a) (text b) p = ap text (coded_name.inj a b (ap tail p))
+  inj_plain (bytes a) (bytes b) p = ap bytes (coded_name.inj a b (ap tail p))
+  inj_plain (ints a) (ints b) p = ap ints (coded_name.inj a b (ap tail p))
+  inj_plain (longs a) (longs b) p = ap longs (coded_name.inj a b (ap tail p))
   inj_plain (list a) (list b) p = ap list (inj_trees a b (ap tail p))
   inj_plain (map a) (map b) p = ap map (inj_pairs a b (ap tail p))
   inj_plain null null p = refl
@@ -74,7 +62,7 @@ mutual
   pub inj_pairs : (x y : Pairs) → code_pairs x ≡ code_pairs y → x ≡ y
   inj_pairs no_pair no_pair p = refl
   inj_pairs (pair k a as') (pair l b bs') p =
-      let kk : k ≡ l = bs.inj k l (ap (λ g. head (head g)) p) in
+      let kk : k ≡ l = coded_name.inj k l (ap (λ g. head (head g)) p) in
       let tt' : a ≡ b = inj_plain a b (ap (λ g. tail (head g)) p) in
       let rr : as' ≡ bs' = inj_pairs as' bs' (ap tail p) in
       cc
@@ -87,7 +75,7 @@ abbrev pub coded_items : Coded (List Plain)
 coded_items = coded_list coded_plain
 
 abbrev pub coded_entries : Coded (List (List ℕ × Plain))
-coded_entries = coded_list (coded× bs coded_plain)
+coded_entries = coded_list (coded× coded_name coded_plain)
 
 abbrev step_parts : PlaceStep → Option (List ℕ) × ℕ
 step_parts (named n) = (Some n, 0)
@@ -105,7 +93,7 @@ step_again (named n) = refl
 step_again (index i) = refl
 
 abbrev pub coded_step : Coded PlaceStep
-coded_step = code_by (Option (List ℕ) × ℕ) (coded× (coded_option bs) coded_ℕ) step_parts step_from step_again
+coded_step = code_by (Option (List ℕ) × ℕ) (coded× (coded_option coded_name) coded_ℕ) step_parts step_from step_again
 
 abbrev pub coded_place : Coded Place
 coded_place = coded_list coded_step

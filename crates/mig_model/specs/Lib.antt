@@ -1,4 +1,5 @@
 pub mod Plain
+pub mod Stored
 pub mod Code
 pub mod Names
 pub mod Kinds

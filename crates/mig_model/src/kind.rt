@@ -1,3 +1,4 @@
+//! The kinds of trees.
 /// The kind of a tree. The first twelve are those of NBT; JSON has `Text`, `List`, `Map` and the last three.
 #[derive(Clone, Copy, Debug, PartialEq, Eq)]
 pub enum Kind {

@@ -1,7 +1,8 @@
-//! What the other crates speak of: the kinds of trees, and in `specs/` trees, maps, templates and chains as plain data.
+//! What the other crates speak of: forms, kinds and names, lists by name, and in `specs/` trees, maps, templates and families as plain data.
 #![tactic(auto)]
 
 mod form;
+mod keyed;
 mod kind;
 mod memory;
 mod name;
@@ -9,6 +10,7 @@ mod presence;
 mod rest;
 
 pub use form::Form;
+pub use keyed::{Keyed, ascends, place_by_key, sort_by_key};
 pub use kind::Kind;
 pub use memory::Memory;
 pub use name::Name;

@@ -1,10 +1,11 @@
+//! Names.
 ghost use Rattle.std.specs.Prelude.{◌≡◌, IfOk, nat_eq};
 ghost use Rattle.std.specs.Cmp as laws_of;
 ghost use Rattle.std.specs.Cmp.Lexicographic.{pointwise, bytes_decides, nat_list_eq_equiv};
 ghost use Rattle.std.specs.Hash as fed;
 ghost use Rattle.std.specs.Hash.{same_Alike};
 
-use crate::Memory;
+use crate::{Keyed, Memory};
 use std::alloc::Global;
 use std::hash::{Hash, Hasher};
 use std::marker::Model;
@@ -45,6 +46,14 @@ impl Name {
         ensures { IfOk result (λ name. name ≡ self.now) }
     {
         Name::new(alloc, self.bytes())
+    }
+}
+
+impl Keyed for Name {
+    ghost key = { λ n. n };
+
+    fn key(&self) -> &[u8] {
+        self.bytes()
     }
 }
 

@@ -1,3 +1,4 @@
+//! Whether a field has to be there.
 /// Whether a field has to be there.
 #[derive(Clone, Copy, Debug, PartialEq, Eq)]
 pub enum Presence {

@@ -2,4 +2,3 @@ pub mod Changes
 pub mod SearchNames
 pub mod Filtered
 pub mod Merging
-pub mod Loops

@@ -12,7 +12,7 @@ use Rattle.mig_model.specs.Names.{by_bytes}
 use Rattle.mig_model.specs.Template.{same_name}
 use Rattle.mig_template.specs.Parts.{is_among}
 use Rattle.mig_template.proofs.Names.{keys_moved}
-use Rattle.mig_template.proofs.OneOrder.{one_order}
+use Rattle.mig_model.proofs.OneOrder.{one_order}
 use Rattle.mig_template.proofs.Sorted.{ascends_if_once, once_if_ascends}
 use Rattle.mig_action.specs.Edits.{under, put_all, others}
 use Rattle.mig_action.proofs.Edits.{above-none, ascends-head, ascends-tail, ascends-put_all, first, put-permutes, same_under, under-itself, under-others, under-put_all}

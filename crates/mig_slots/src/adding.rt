@@ -1,3 +1,4 @@
+//! Slots that are dropped, added, and filled where they are absent.
 ghost use Rattle.std.specs.Prelude.{◌≡◌, [], IfOk, if◌then◌else◌};
 ghost use Rattle.mig_value.specs.View.{typed_of};
 ghost use Rattle.mig_action.specs.Edits.{has, without, put};
@@ -20,7 +21,8 @@ pub fn drop_field<'a>(mut moving: Moving<'a>, x: &Name) -> Moving<'a>
 /// Puts the value under a new name, which no unknown slot keeps. The slot borrows the name.
 pub fn add<'a>(mut moving: Moving<'a>, x: &'a Name, value: Value<'a>) -> Result<Moving<'a>, Memory>
     requires { IsOrdered (moving_of moving) }
-    ensures { let given = moving_of moving.entry in IfOk result (λ m. moving_of m ≡ record { slots = put x.now (typed_of value.entry) given.slots; rest = without x.now given.rest }) }
+    ensures { let given = moving_of moving.entry in IfOk result (λ m. moving_of m
+        ≡ record { slots = put x.now (typed_of value.entry) given.slots; rest = without x.now given.rest }) }
 {
     let slot = Slot {
         name: Text::lent(x.bytes()),
@@ -38,7 +40,12 @@ pub fn fill_absent<'a>(
     value: Value<'a>,
 ) -> Result<Moving<'a>, Memory>
     requires { IsOrdered (moving_of moving) }
-    ensures { let given = moving_of moving.entry in IfOk result (λ m. moving_of m ≡ record { slots = (if has x.now given.slots then given.slots else put x.now (typed_of value.entry) given.slots); rest = given.rest }) }
+    ensures { let given = moving_of moving.entry in IfOk result (λ m. moving_of m
+        ≡ record {
+          slots = (if has x.now given.slots then given.slots else put x.now
+              (typed_of value.entry) given.slots);
+          rest = given.rest;
+        }) }
 {
     if has_slot(moving.slots.as_slice(), x.bytes()) {
         drop(value);

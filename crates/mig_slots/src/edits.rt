@@ -1,3 +1,4 @@
+//! Slots that are found, put and taken out by name.
 ghost use Rattle.std.specs.Prelude.{◌≡◌, ◌<◌, length, map, option_map, IfSome, OnOk};
 ghost use Rattle.std.specs.List.Sorted.{IsSearchInRange};
 ghost use Rattle.std_collections.specs.Layout.BTreeMap.{seek};
@@ -10,6 +11,7 @@ ghost use Rattle.mig_value.specs.View.{typed_of, slot_of};
 ghost use Rattle.mig_action.specs.Edits.{under, has, without, put};
 
 use crate::{Memory, Slot, Tree, Value};
+use mig_model::place_by_key;
 use std::mem;
 
 /// Where the name is, or where it would go. It takes log n comparisons.
@@ -18,7 +20,7 @@ pub(crate) fn place(slots: &[Slot], name: &[u8]) -> Result<usize, usize>
     ensures bound { IsSearchInRange result (length slots.now) }
     ensures place { result ≡ seek (by_bytes name.now) (map slot_of slots.now) }
 {
-    slots.binary_search_by(|slot| slot.name.bytes().cmp(name))
+    place_by_key(slots, name)
 }
 
 /// Whether a slot has the name. It takes log n comparisons.
@@ -73,7 +75,8 @@ pub(crate) fn take_value<'a>(slots: &mut Vec<Slot<'a>>, name: &[u8]) -> Option<V
 /// Puts the slot at its place, instead of one of its name.
 pub(crate) fn put_slot<'a>(slots: &mut Vec<Slot<'a>>, slot: Slot<'a>) -> Result<(), Memory>
     requires { Ascends (map slot_of slots.old.items) }
-    ensures put { OnOk result (map slot_of slots.new.items ≡ put slot.entry.name (typed_of slot.entry.value) (map slot_of slots.old.items)) }
+    ensures put { OnOk result (map slot_of slots.new.items
+        ≡ put slot.entry.name (typed_of slot.entry.value) (map slot_of slots.old.items)) }
     ensures ascend { OnOk result (Ascends (map slot_of slots.new.items)) }
 {
     match place(slots.as_slice(), slot.name.bytes()) {

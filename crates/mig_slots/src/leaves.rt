@@ -1,3 +1,4 @@
+//! Leaf functions at slots, slots that become lists, and sums that become one leaf.
 ghost use Rattle.std.specs.Prelude.{◌≡◌, [], IfOk, IfSome};
 ghost use Rattle.mig_model.specs.Leaf.{leaf_value};
 ghost use Rattle.mig_leaf.specs.View.{leaf_fn_of};
@@ -37,7 +38,8 @@ pub fn map_leaf<'a>(
 ) -> Result<Moving<'a>, Memory>
     requires ordered { IsOrdered (moving_of moving) }
     requires fits { IfSome (under x.now (moving_of moving).slots) (FitsAtom (leaf_fn_of function.now)) }
-    ensures { IfOk result (λ m. moving_of m ≡ move (op.map_leaf x.now (leaf_fn_of function.now)) [] (moving_of moving.entry)) }
+    ensures { IfOk result (λ m. moving_of m
+        ≡ move (op.map_leaf x.now (leaf_fn_of function.now)) [] (moving_of moving.entry)) }
 {
     let Ok(at) = place(moving.slots.as_slice(), x.bytes()) else {
         return Ok(moving);
@@ -57,7 +59,8 @@ fn one_mapped<'a>(
     second: &'a LeafFn,
 ) -> Result<Value<'a>, Memory>
     requires { OneFitsAtom (leaf_fn_of first.now) (leaf_fn_of second.now) kind (typed_of value) }
-    ensures { IfOk result (λ v. typed_of v ≡ at_leaf (unified (leaf_fn_of first.now) (leaf_fn_of second.now) kind) (typed_of value.entry)) }
+    ensures { IfOk result (λ v. typed_of v
+        ≡ at_leaf (unified (leaf_fn_of first.now) (leaf_fn_of second.now) kind) (typed_of value.entry)) }
 {
     match value {
         Value::Atom(tree) => {
@@ -80,7 +83,8 @@ fn side_mapped<'a>(
     second: &'a LeafFn,
 ) -> Result<Value<'a>, Memory>
     requires { OneFitsSide (leaf_fn_of first.now) (leaf_fn_of second.now) kind (typed_of value) }
-    ensures { IfOk result (λ v. typed_of v ≡ at_side (unified (leaf_fn_of first.now) (leaf_fn_of second.now) kind) (typed_of value.entry)) }
+    ensures { IfOk result (λ v. typed_of v
+        ≡ at_side (unified (leaf_fn_of first.now) (leaf_fn_of second.now) kind) (typed_of value.entry)) }
 {
     match value {
         Value::Left(side) | Value::Right(side) => {
@@ -100,8 +104,14 @@ pub fn unify<'a>(
     second: &'a LeafFn,
 ) -> Result<Moving<'a>, Memory>
     requires ordered { IsOrdered (moving_of moving) }
-    requires fits { IfSome (under x.now (moving_of moving).slots) (OneFitsSide (leaf_fn_of first.now) (leaf_fn_of second.now) kind) }
-    ensures { let given = moving_of moving.entry in IfOk result (λ m. moving_of m ≡ record { slots = changed x.now (at_side (unified (leaf_fn_of first.now) (leaf_fn_of second.now) kind)) given.slots; rest = given.rest }) }
+    requires fits { IfSome (under x.now (moving_of moving).slots) (OneFitsSide (leaf_fn_of first.now)
+        (leaf_fn_of second.now) kind) }
+    ensures { let given = moving_of moving.entry in IfOk result (λ m. moving_of m
+        ≡ record {
+          slots = changed x.now (at_side (unified (leaf_fn_of first.now)
+              (leaf_fn_of second.now) kind)) given.slots;
+          rest = given.rest;
+        }) }
 {
     let Ok(at) = place(moving.slots.as_slice(), x.bytes()) else {
         return Ok(moving);

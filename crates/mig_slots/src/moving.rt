@@ -1,3 +1,4 @@
+//! The slots of one scope and the unknown slots beside them.
 use crate::Slot;
 
 /// The slots of a scope of a record value, and the unknown ones, which field functions take by value and hand back changed.

@@ -1,3 +1,4 @@
+//! Slots that get another name, and slots that are forgotten or learned.
 ghost use Rattle.std.specs.Prelude.{◌≡◌, [], IfOk, option_map};
 ghost use Rattle.mig_value.specs.View.{typed_of};
 ghost use Rattle.mig_action.specs.FieldFn as op;

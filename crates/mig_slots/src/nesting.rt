@@ -1,8 +1,7 @@
-ghost use Rattle.std.specs.Prelude.{◌≡◌, ◌++◌, ◌∷◌, [], not, map, IfOk, OnOk, option_map, IsPermutation, if◌then◌else◌};
-ghost use Rattle.std.specs.List.Sorted.{IsSortedByKey};
+//! Slots that become one record, and a record whose fields become slots.
+ghost use Rattle.std.specs.Prelude.{◌≡◌, ◌++◌, ◌∷◌, [], not, map, IfOk, OnOk, option_map, if◌then◌else◌};
 ghost use Rattle.std.specs.Map.{keys_of};
 ghost use Rattle.mig_model.specs.Ascends.{Ascends};
-ghost use Rattle.mig_model.specs.Names.{by_bytes};
 ghost use Rattle.mig_template.specs.Parts.{is_among};
 ghost use Rattle.mig_value.specs.View.{typed_of, slot_of};
 ghost use Rattle.mig_action.specs.Edits.{under, without, put_all, those, others};
@@ -12,6 +11,7 @@ ghost use Rattle.mig_slots.specs.View.{moving_of, IsOrdered};
 
 use crate::edits::{drop_slot, put_slot, take_value};
 use crate::{Memory, Moving, Name, Names, Slot, Text, Value};
+use mig_model::sort_by_key;
 use mig_template::Fields;
 use mig_value::{RecValue, Slots};
 use std::alloc::Global;
@@ -23,8 +23,10 @@ fn put_apart<'a>(
     inside: &mut Vec<Slot<'a>>,
     outside: &mut Vec<Slot<'a>>,
 ) -> Result<(), Memory>
-    ensures inside { OnOk result (inside.new.items ≡ (if is_among names.now slot.entry.name then inside.old.items ++ slot.entry ∷ [] else inside.old.items)) }
-    ensures outside { OnOk result (outside.new.items ≡ (if is_among names.now slot.entry.name then outside.old.items else outside.old.items ++ slot.entry ∷ [])) }
+    ensures inside { OnOk result (inside.new.items
+        ≡ (if is_among names.now slot.entry.name then inside.old.items ++ slot.entry ∷ [] else inside.old.items)) }
+    ensures outside { OnOk result (outside.new.items
+        ≡ (if is_among names.now slot.entry.name then outside.old.items else outside.old.items ++ slot.entry ∷ [])) }
 {
     if names.contains(slot.name.bytes()) {
         inside.push(slot)?;
@@ -105,14 +107,6 @@ fn keep_undeclared(slots: &mut Vec<Slot>, fields: &Fields)
     slots.retain(|slot| !fields.has(slot.name.bytes()));
 }
 
-/// Sorts by the bytes of the names, in the list's place.
-fn sort_by_name(list: &mut Vec<Slot>)
-    ensures permutation { IsPermutation list.old.items list.new.items }
-    ensures sorted { IsSortedByKey (λ s. s.name) by_bytes list.new.items }
-{
-    list.sort_unstable_by(|one, other| one.name.bytes().cmp(other.name.bytes()));
-}
-
 /// The slots with these fields put among them, which stand instead of those of the same names.
 fn merged<'a>(mut slots: Vec<Slot<'a>>, fields: Slots<'a>) -> Result<Vec<Slot<'a>>, Memory>
     requires { Ascends (map slot_of slots.items) }
@@ -121,7 +115,7 @@ fn merged<'a>(mut slots: Vec<Slot<'a>>, fields: Slots<'a>) -> Result<Vec<Slot<'a
     keep_others(&mut slots, &fields);
     let mut list = fields.into_vec();
     list.append(&mut slots)?;
-    sort_by_name(&mut list);
+    sort_by_key(&mut list);
     Ok(list)
 }
 
@@ -132,7 +126,8 @@ fn with_inner<'a>(
     value: Option<Value<'a>>,
 ) -> Result<Vec<Slot<'a>>, Memory>
     requires { Ascends (map slot_of slots.items) }
-    ensures { IfOk result (λ v. map slot_of v.items ≡ put_all (inner_slots (option_map typed_of value.entry)) (map slot_of slots.entry.items)) }
+    ensures { IfOk result (λ v. map slot_of v.items
+        ≡ put_all (inner_slots (option_map typed_of value.entry)) (map slot_of slots.entry.items)) }
 {
     match value {
         Some(Value::Rec(record)) => {
@@ -157,7 +152,12 @@ pub fn unnest<'a>(
     inner: &Fields,
 ) -> Result<Moving<'a>, Memory>
     requires { IsOrdered (moving_of moving) }
-    ensures { let given = moving_of moving.entry in IfOk result (λ m. moving_of m ≡ record { slots = put_all (inner_slots (under y.now given.slots)) (without y.now given.slots); rest = others (keys_of inner.now) given.rest }) }
+    ensures { let given = moving_of moving.entry in IfOk result (λ m. moving_of m
+        ≡ record {
+          slots = put_all (inner_slots (under y.now given.slots))
+              (without y.now given.slots);
+          rest = others (keys_of inner.now) given.rest;
+        }) }
 {
     let value = take_value(&mut moving.slots, y.bytes());
     keep_undeclared(&mut moving.rest, inner);

@@ -12,6 +12,7 @@ use Rattle.mig_template.specs.Fault.{IsFault}
 use Rattle.std.proofs.lemmas.List.Folds.{list_any-append}
 use Rattle.mig_template.specs.Parts.{Case, Cases, IsOrderOf, FieldsOrdered, CasesOrdered, is_among, has_twice_in, is_twice_in, is_twice_named}
 use Rattle.mig_template.proofs.Names.{twice_moved, keys_moved}
+use Rattle.mig_model.proofs.Bools.{both_false}
 
 pub ordered_more : (gs ds : List Case) (g d : Case) → FieldsOrdered gs ds → g.0 ≡ d.0 → IsOrderOf g.1 d.1 → FieldsOrdered (gs ++ g ∷ []) (ds ++ d ∷ [])
 ordered_more [] [] g d h l o = (l, o, tt)
@@ -73,9 +74,6 @@ tag_twice fs c h = ap (λ b. (b || has_twice (keys_of fs)) || is_twice_in (c.0 �
 pub tag_once : (fs : List Field) (tag : List ℕ) → is_among (keys_of fs) tag ≡ false → has_twice (keys_of fs) ≡ false → has_twice (tag ∷ keys_of fs) ≡ false
 tag_once fs tag h k = λ i. h i || k i
 
-pub none_twice : (a b : Bool) → a ≡ false → b ≡ false → (a || b) ≡ false
-none_twice a b h k = λ i. h i || k i
-
 -- what is at fault in the cases is at fault in the record
 pub fault_more : (e : RecordFault) (a b none : Bool) → IsFault e b false → IsFault e (a || b) none
 fault_more TwiceNamed a b none h = true_or a b h
@@ -95,4 +93,4 @@ pub keys_twice : (others : List (List ℕ)) (gs ds cs : List Case) → FieldsOrd
 keys_twice others gs ds cs h p twice = true_or (list_any (has_twice_in others) gs) (has_twice (keys_of gs)) (ap has_twice (keys_ordered gs ds h) ∙ keys_moved ds cs p ∙ twice)
 
 pub keys_once : (others : List (List ℕ)) (gs ds cs : List Case) → FieldsOrdered gs ds → IsPermutation ds cs → list_any (has_twice_in others) gs ≡ false → has_twice (keys_of cs) ≡ false → is_twice_in others gs ≡ false
-keys_once others gs ds cs h p none once = none_twice (list_any (has_twice_in others) gs) (has_twice (keys_of gs)) none (ap has_twice (keys_ordered gs ds h) ∙ keys_moved ds cs p ∙ once)
+keys_once others gs ds cs h p none once = both_false (list_any (has_twice_in others) gs) (has_twice (keys_of gs)) none (ap has_twice (keys_ordered gs ds h) ∙ keys_moved ds cs p ∙ once)

@@ -1,5 +1,5 @@
 -- Names of which none stands twice, and what moving them keeps.
-use Rattle.std.proofs.Common.{◌≡◌, ℕ, ◌||◌, List, [], ◌∷◌, ◌++◌, Bool, true, false, refl, sym, ap, ◌∙◌}
+use Rattle.std.proofs.Common.{◌≡◌, ℕ, ◌||◌, List, [], ◌∷◌, ◌++◌, Bool, true, false, true≢false, refl, sym, ap, ◌∙◌}
 use Rattle.std.specs.Prelude.{IsPermutation}
 use Rattle.std.specs.List.{AllByRecursion, IsDistinct, list_any}
 use Rattle.std.specs.Map.{keys_of}
@@ -10,6 +10,8 @@ use Rattle.mig_model.proofs.Ascending.{flips}
 use Rattle.mig_model.specs.Family.{has_twice}
 use Rattle.mig_model.specs.Template.{same_name}
 use Rattle.mig_template.specs.Parts.{is_among}
+use Rattle.mig_model.proofs.Bools.{split_or, first_false, second_false}
+use Rattle.mig_model.proofs.SameNames.{same_name_is}
 
 abbrev Apart : List (List ℕ) → Type 0
 Apart ns = IsDistinct same_name ns
@@ -17,14 +19,6 @@ Apart ns = IsDistinct same_name ns
 none_among : (n : List ℕ) (ns : List (List ℕ)) → AllByRecursion (λ m. same_name n m ≡ false) ns → is_among ns n ≡ false
 none_among n [] h = refl
 none_among n (m ∷ ns) h = rw h.0 (none_among n ns h.1)
-
-first_false : (a b : Bool) → (a || b) ≡ false → a ≡ false
-first_false false b e = refl
-first_false true b e = absurd cc
-
-second_false : (a b : Bool) → (a || b) ≡ false → b ≡ false
-second_false false b e = e
-second_false true b e = absurd cc
 
 not_among : (n : List ℕ) (ns : List (List ℕ)) → is_among ns n ≡ false → AllByRecursion (λ m. same_name n m ≡ false) ns
 not_among n [] h = tt
@@ -86,3 +80,31 @@ keys_moved es ds p = twice_moved (keys_of es) (keys_of ds) (IsPermutation-map (�
 pub taken_in : {A : Type 0} (es ds : List (List ℕ × A)) (others : List (List ℕ)) → IsPermutation es ds → has_twice (keys_of es) ≡ false → has_twice others ≡ false
     → has_twice (keys_of es ++ others) ≡ list_any (is_among others) (keys_of ds)
 taken_in es ds others p h k = twice_in_both (keys_of es) others h k ∙ list_any-IsPermutation (is_among others) (keys_of es) (keys_of ds) (IsPermutation-map (λ e. e.0) es ds p)
+
+-- where no name stands twice, none of the first is among the others
+pub apart_from_others : (ms ns : List (List ℕ)) (x : List ℕ) → has_twice (ms ++ ns) ≡ false → is_among ms x ≡ true → is_among ns x ≡ false
+apart_from_others [] ns x h a = absurd (true≢false (sym a))
+apart_from_others (m ∷ ms) ns x h a = by (same_name x m) refl a (apart_from_others ms ns x both.1)
+  where
+    both : (is_among (ms ++ ns) m ≡ false) × (has_twice (ms ++ ns) ≡ false)
+    both = split_or (is_among (ms ++ ns) m) (has_twice (ms ++ ns)) h
+
+    by : (b : Bool) → same_name x m ≡ b → (b || is_among ms x) ≡ true → (is_among ms x ≡ true → is_among ns x ≡ false) → is_among ns x ≡ false
+    by true e k rest = ap (is_among ns) (same_name_is x m e) ∙ (split_or (is_among ms m) (is_among ns m) (sym (list_any-append (same_name m) ms ns) ∙ both.0)).1
+    by false e k rest = rest k
+
+-- and none of the others is among the first
+pub apart_from_first : (ms ns : List (List ℕ)) (x : List ℕ) → has_twice (ms ++ ns) ≡ false → is_among ns x ≡ true → is_among ms x ≡ false
+apart_from_first ms ns x h a = by (is_among ms x) refl
+  where
+    by : (b : Bool) → is_among ms x ≡ b → is_among ms x ≡ false
+    by true e = absurd (true≢false (sym a ∙ apart_from_others ms ns x h e))
+    by false e = e
+
+-- and in the first none stands twice
+pub first_once : (ms ns : List (List ℕ)) → has_twice (ms ++ ns) ≡ false → has_twice ms ≡ false
+first_once [] ns h = refl
+first_once (m ∷ ms) ns h =
+    let both = split_or (is_among (ms ++ ns) m) (has_twice (ms ++ ns)) h in
+    let here : is_among ms m ≡ false = (split_or (is_among ms m) (is_among ns m) (sym (list_any-append (same_name m) ms ns) ∙ both.0)).0 in
+    λ i. here i || first_once ms ns both.1 i

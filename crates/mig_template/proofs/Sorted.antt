@@ -9,15 +9,9 @@ use Rattle.std.specs.Map.{keys_of}
 use Rattle.std.proofs.lemmas.Map.Keys.{IsDistinct-from_sorted}
 use Rattle.mig_model.specs.Family.{has_twice}
 use Rattle.mig_model.specs.Names.{by_bytes}
-use Rattle.mig_model.proofs.Rising.{ascends_if_distinct}
+use Rattle.mig_model.proofs.Rising.{entries_ascend}
 use Rattle.mig_model.specs.Ascends.{Ascends}
 use Rattle.mig_template.proofs.Names.{once_if_apart, apart_if_once}
-
--- an ordering that isn't other than Less is it
-pub is_less : (r : Ordering) → false ≡ not (ordering_index r == 0) → r ≡ Less
-is_less Less e = refl
-is_less Equal e = absurd cc
-is_less Greater e = absurd cc
 
 -- where names ascend, none stands twice
 pub once_if_ascends : {A : Type 0} (es : List (List ℕ × A)) → Ascends es → has_twice (keys_of es) ≡ false
@@ -26,7 +20,7 @@ once_if_ascends es s = once_if_apart (keys_of es) (IsDistinct-from_sorted by_byt
 module _ {X A : Type 0} (view : X → List ℕ × A) where
   -- sorted names of which none stands twice ascend
   pub ascends_if_once : (es : List X) → IsSortedByKey (λ x. (view x).0) by_bytes es → has_twice (keys_of (map view es)) ≡ false → Ascends (map view es)
-  ascends_if_once es sorted once = ascends_if_distinct view es sorted (apart_if_once (keys_of (map view es)) once)
+  ascends_if_once es sorted once = entries_ascend view es sorted (apart_if_once (keys_of (map view es)) once)
 
   pub twice_if_not : (es : List X) → IsSortedByKey (λ x. (view x).0) by_bytes es → (Ascends (map view es) → ⊥) → has_twice (keys_of (map view es)) ≡ true
   twice_if_not es sorted never = by (has_twice (keys_of (map view es))) refl

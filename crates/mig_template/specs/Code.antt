@@ -1,42 +1,16 @@
 -- Templates as stored values, so that a struct may have them as its value.
 use Rattle.std.specs.Prelude.{ℕ, List, ◌≡◌, refl, Option, Bool, true, false}
-use Rattle.std.specs.List.{slice_index_or}
-use Rattle.std.specs.Coded.{Coded, code_by, coded_ℕ, coded_list, coded_bool, coded_option, coded×}
+use Rattle.std.specs.Coded.{Coded, code_by, coded_list, coded_bool, coded_option, coded×}
 use Rattle.std.proofs.Common.{ap, ap₂, arith}
 use base.Stored.{Gv, gnil, gnum, gcons, num}
-use Rattle.mig_model.specs.declared.kind.Kind.{Kind}
-use Rattle.mig_model.specs.declared.kind.Kind.TheVariants as K
 use Rattle.mig_model.specs.declared.presence.Presence.{Presence}
 use Rattle.mig_model.specs.declared.presence.Presence.TheVariants.{Must, May}
 use Rattle.mig_model.specs.declared.rest.Rest.{Rest}
 use Rattle.mig_model.specs.declared.rest.Rest.TheVariants.{Open, Closed}
-use Rattle.mig_model.specs.Family.{kinds}
-use Rattle.mig_model.specs.Template.{Template, leaf, any, list, point, rec, sum, Fields, no_field, field, Choice, no_choice, choice, Cases, no_case, case, Field, kind_number, is_must, is_open}
+use Rattle.mig_model.specs.Stored.{head, tail, coded_name, coded_kind}
+use Rattle.mig_model.specs.Template.{Template, leaf, any, list, point, rec, sum, Fields, no_field, field, Choice, no_choice, choice, Cases, no_case, case, Field, is_must, is_open}
 use Rattle.mig_template.specs.Parts as parts
 use Rattle.mig_template.specs.Parts.{RecordParts}
-
-abbrev head : Gv → Gv
-head gnil = gnil
-head (gnum n) = gnil
-head (gcons a b) = a
-
-abbrev tail : Gv → Gv
-tail gnil = gnil
-tail (gnum n) = gnil
-tail (gcons a b) = b
-
-abbrev pub coded_name : Coded (List ℕ)
-coded_name = coded_list coded_ℕ
-
-abbrev kind_from : ℕ → Kind
-kind_from n = slice_index_or kinds n K.Byte
-
-pub kind_again : (k : Kind) → kind_from (kind_number k) ≡ k
-kind_again K.Byte = refl
-kind_again _ = refl
-
-abbrev pub coded_kind : Coded Kind
-coded_kind = code_by ℕ coded_ℕ kind_number kind_from kind_again
 
 abbrev presence_from : Bool → Presence
 presence_from true = Must

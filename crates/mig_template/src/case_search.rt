@@ -1,3 +1,4 @@
+//! The case of a record that a literal names.
 ghost use Rattle.std.specs.Prelude.{◌≡◌, length, map, option_map};
 ghost use Rattle.std.specs.List.Sorted.{IsSearchInRange};
 ghost use Rattle.std.specs.Map.{lookup};
@@ -9,6 +10,7 @@ ghost use Rattle.mig_template.specs.Parts.{found_case};
 ghost use Rattle.mig_template.specs.View.{case_of};
 
 use crate::{Case, Fields, Record};
+use mig_model::place_by_key;
 
 /// Where the case of the literal is, or where it would go.
 fn place(cases: &[Case], literal: &[u8]) -> Result<usize, usize>
@@ -16,7 +18,7 @@ fn place(cases: &[Case], literal: &[u8]) -> Result<usize, usize>
     ensures bound { IsSearchInRange result (length cases.now) }
     ensures place { result ≡ seek (by_bytes literal.now) (map case_of cases.now) }
 {
-    cases.binary_search_by(|case| case.literal.bytes().cmp(literal))
+    place_by_key(cases, literal)
 }
 
 /// The fields of the case with this literal, among cases that ascend.

@@ -1,8 +1,7 @@
-ghost use Rattle.std.specs.Prelude.{◌≡◌, ◌↔◌, ◌∷◌, map, false, true, IsTrue, IsPermutation, IfSome, IfNone, IfOk, IfErr};
+//! The cases of a record that are given in any order.
+ghost use Rattle.std.specs.Prelude.{◌≡◌, ◌∷◌, map, false, true, IsTrue, IfSome, IfNone, IfOk, IfErr};
 ghost use Rattle.std.specs.List.{AllByRecursion, list_any};
-ghost use Rattle.std.specs.List.Sorted.{IsSortedByKey};
 ghost use Rattle.std.specs.Map.{keys_of};
-ghost use Rattle.mig_model.specs.Names.{by_bytes};
 ghost use Rattle.mig_model.specs.Family.{has_twice};
 ghost use Rattle.mig_model.specs.Template.{same_name, cases_of};
 ghost use Rattle.mig_template.specs.Kept.{CasesKept};
@@ -13,6 +12,7 @@ ghost use Rattle.mig_template.specs.View.{field_of, case_of, given_case};
 
 use crate::ordering::order_fields;
 use crate::{Case, Field, Fields, Name, RecordFault};
+use mig_model::{ascends, sort_by_key};
 use std::alloc::Global;
 use std::cmp::Ordering;
 
@@ -47,8 +47,10 @@ fn order_case(literal: Name, fields: Vec<Field>, tag: &Name, common: &Fields) ->
     requires { has_twice (tag.now ∷ keys_of common.now) ≡ false }
     ensures literal { IfSome result (λ c. literal ≡ c.literal) }
     ensures fields { IfSome result (λ c. IsOrderOf (map field_of fields.items) c.fields) }
-    ensures once { IfSome result (λ c. has_twice_in (tag.now ∷ keys_of common.now) (literal, map field_of fields.items) ≡ false) }
-    ensures twice { IfNone result (has_twice_in (tag.now ∷ keys_of common.now) (literal, map field_of fields.items) ≡ true) }
+    ensures once { IfSome result (λ c.
+        has_twice_in (tag.now ∷ keys_of common.now) (literal, map field_of fields.items) ≡ false) }
+    ensures twice { IfNone result (has_twice_in (tag.now ∷ keys_of common.now) (literal, map field_of fields.items)
+        ≡ true) }
 {
     match order_fields(fields) {
         Some(fields) => {
@@ -71,8 +73,10 @@ fn order_each(
 ) -> Result<Vec<Case>, RecordFault>
     requires { has_twice (tag.now ∷ keys_of common.now) ≡ false }
     ensures ordered { IfOk result (λ cs. FieldsOrdered (map given_case given.items) (map case_of cs.items)) }
-    ensures once { IfOk result (λ cs. list_any (has_twice_in (tag.now ∷ keys_of common.now)) (map given_case given.items) ≡ false) }
-    ensures twice { IfErr result (λ e. IsFault e (list_any (has_twice_in (tag.now ∷ keys_of common.now)) (map given_case given.items)) false) }
+    ensures once { IfOk result (λ cs.
+        list_any (has_twice_in (tag.now ∷ keys_of common.now)) (map given_case given.items) ≡ false) }
+    ensures twice { IfErr result (λ e.
+        IsFault e (list_any (has_twice_in (tag.now ∷ keys_of common.now)) (map given_case given.items)) false) }
 {
     let mut cases = Vec::new(alloc);
     for (literal, fields) in given {
@@ -84,31 +88,14 @@ fn order_each(
     Ok(cases)
 }
 
-/// Sorts by the bytes of the literals, in the list's place.
-fn sort_by_literal(list: &mut Vec<Case>)
-    ensures permutation { IsPermutation list.old.items list.new.items }
-    ensures sorted { IsSortedByKey (λ c. c.literal) by_bytes list.new.items }
+/// Tells what the fields of each case keep. It is called in a `prove!`, and costs nothing at run time.
+fn cases_are_kept(list: &[Case]) -> bool
+    ensures always { IsTrue result }
+    ensures kept { CasesKept (cases_of (map case_of list.now)) }
+    ensures within { AllByRecursion (λ d. Ascends d.1) (map case_of list.now) }
 {
-    list.sort_unstable_by(|one, other| one.literal.bytes().cmp(other.literal.bytes()));
-}
-
-/// Whether each literal stands before the next. If so, it also tells what the fields of each case keep.
-fn ascends(list: &[Case]) -> bool
-    ensures ascend { IsTrue result ↔ Ascends (map case_of list.now) }
-    ensures kept { IsTrue result → CasesKept (cases_of (map case_of list.now)) }
-    ensures within { IsTrue result → AllByRecursion (λ d. Ascends d.1) (map case_of list.now) }
-{
-    let Some(first) = list.first() else {
-        return true;
-    };
-    first.fields.keeps();
-    for at in 1..list.len() {
-        let before = list[at - 1].literal.bytes();
-        let case = &list[at];
+    for case in list {
         case.fields.keeps();
-        if before.cmp(case.literal.bytes()) != Ordering::Less {
-            return false;
-        }
     }
     true
 }
@@ -125,13 +112,15 @@ pub fn order_cases(
     ensures kept { IfOk result (λ cs. CasesKept (cases_of (map case_of cs.items))) }
     ensures ascend { IfOk result (λ cs. AllByRecursion (λ d. Ascends d.1) (map case_of cs.items)) }
     ensures once { IfOk result (λ cs. is_twice_in (tag.now ∷ keys_of common.now) (map given_case given.items) ≡ false) }
-    ensures twice { IfErr result (λ e. IsFault e (is_twice_in (tag.now ∷ keys_of common.now) (map given_case given.items)) false) }
+    ensures twice { IfErr result (λ e.
+        IsFault e (is_twice_in (tag.now ∷ keys_of common.now) (map given_case given.items)) false) }
 {
     let mut cases = order_each(alloc, given, tag, common)?;
-    sort_by_literal(&mut cases);
+    sort_by_key(&mut cases);
     if !ascends(&cases) {
         drop(cases);
         return Err(RecordFault::TwiceNamed);
     }
+    prove!(cases_are_kept(&cases));
     Ok(cases)
 }

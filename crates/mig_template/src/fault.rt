@@ -1,3 +1,4 @@
+//! Why parts make no record.
 ghost use Rattle.std.specs.Prelude.{◌≡◌};
 ghost use Rattle.mig_template.specs.declared.fault.RecordFault.TheVariants as faults;
 

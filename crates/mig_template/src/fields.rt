@@ -1,3 +1,4 @@
+//! The fields of a record or of a case, in the order of their names.
 ghost use Rattle.std.specs.Prelude.{◌≡◌, ◌↔◌, length, map, option_map, IfSome, IfOk, IsTrue};
 ghost use Rattle.std.specs.List.Sorted.{IsSearchInRange};
 ghost use Rattle.std.specs.Map.{keys_of};
@@ -10,6 +11,7 @@ ghost use Rattle.mig_template.specs.Retyped.{retyped, with_templates};
 ghost use Rattle.mig_template.specs.View.{template_of, field_of};
 
 use crate::{Memory, Name, Presence, Template};
+use mig_model::{Keyed, place_by_key};
 use std::alloc::Global;
 use std::marker::Model;
 
@@ -66,6 +68,14 @@ fn count_musts(list: &[Field]) -> usize
     list.iter()
         .filter(|field| field.presence == Presence::Must)
         .count()
+}
+
+impl Keyed for Field {
+    ghost key = { λ f. f.name };
+
+    fn key(&self) -> &[u8] {
+        self.name.bytes()
+    }
 }
 
 impl Field {
@@ -148,13 +158,14 @@ impl Fields {
         ensures bound { IsSearchInRange result (length list.now) }
         ensures place { result ≡ seek (by_bytes name.now) (map field_of list.now) }
     {
-        list.binary_search_by(|field| field.name.bytes().cmp(name))
+        place_by_key(list, name)
     }
 
     /// The field of the name. It takes log n comparisons.
     pub fn get(&self, name: &[u8]) -> Option<&Field>
         ensures name { IfSome result (λ f. f.now.name ≡ name.now) }
-        ensures found { option_map (λ f. (f.now.presence, template_of f.now.template)) result ≡ found_field name.now self.now }
+        ensures found { option_map (λ f. (f.now.presence, template_of f.now.template)) result
+            ≡ found_field name.now self.now }
     {
         match Fields::place(self.list.as_slice(), name) {
             Ok(at) => Some(&self.list[at]),

@@ -1,3 +1,4 @@
+//! The kinds that a template's trees have.
 ghost use Rattle.std.specs.Prelude.{◌≡◌, ◌||◌, ◌&&◌, false};
 ghost use Rattle.std.specs.List.{list_any};
 ghost use Rattle.mig_model.specs.declared.kind.Kind as model;

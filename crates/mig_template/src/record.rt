@@ -1,3 +1,4 @@
+//! Records: their parts, and records with other templates in the same places.
 ghost use Rattle.std.specs.Prelude.{◌≡◌, ◌↔◌, Some, false, length, map, option_map, IfOk, IfErr, IsTrue};
 ghost use Rattle.mig_template.specs.Parts.{IsRecordOf, is_twice_named, has_no_case, choice_of};
 ghost use Rattle.mig_template.specs.Fault.{IsFault};
@@ -9,6 +10,7 @@ ghost use Rattle.mig_template.specs.View.{template_of, field_of, case_of, given_
 use crate::cases::order_cases;
 use crate::ordering::order_fields;
 use crate::{Field, Fields, Memory, Name, RecordFault, Rest, Template};
+use mig_model::Keyed;
 use std::alloc::Global;
 use std::marker::Model;
 
@@ -18,6 +20,14 @@ use std::marker::Model;
 pub struct Case {
     pub literal: Name,
     pub fields: Fields,
+}
+
+impl Keyed for Case {
+    ghost key = { λ c. c.literal };
+
+    fn key(&self) -> &[u8] {
+        self.literal.bytes()
+    }
 }
 
 /// The name of a tag, a case for each of its literals, and whether a tag that is no literal is kept. Contracts see these three.
@@ -94,7 +104,8 @@ impl Case {
         templates: Vec<Option<Template>>,
     ) -> Result<Case, Memory>
         requires { length templates.items ≡ length self.now.fields }
-        ensures case { IfOk result (λ c. case_of c ≡ (self.now.literal, with_templates (given_templates templates) self.now.fields)) }
+        ensures case { IfOk result (λ c. case_of c
+            ≡ (self.now.literal, with_templates (given_templates templates) self.now.fields)) }
         ensures keep { IfOk result (λ c. FieldListKept c.fields) }
     {
         let literal = self.literal.copy(alloc)?;
@@ -244,7 +255,8 @@ impl Record {
     ) -> Result<Record, Memory>
         requires common { length common.items ≡ length self.now.fields }
         requires cased { HavePlaces (map given_templates cased.items) (cases_or_none self.now.choice) }
-        ensures { IfOk result (λ r. r ≡ record_with (given_templates common) (map given_templates cased.items) self.now) }
+        ensures { IfOk result (λ r. r
+            ≡ record_with (given_templates common) (map given_templates cased.items) self.now) }
     {
         self.keeps();
         let fields = self.fields().with_templates(alloc, common)?;
@@ -264,7 +276,8 @@ impl Record {
         templates: Vec<Vec<Option<Template>>>,
     ) -> Result<Option<Choice>, Memory>
         requires { HavePlaces (map given_templates templates.items) (cases_or_none self.now.choice) }
-        ensures choice { IfOk result (λ c. c ≡ option_map (choice_with (map given_templates templates.items)) self.now.choice) }
+        ensures choice { IfOk result (λ c. c
+            ≡ option_map (choice_with (map given_templates templates.items)) self.now.choice) }
         ensures keep { IfOk result (λ c. ChoiceKept (choice_of c)) }
     {
         match self.choice() {
@@ -283,7 +296,9 @@ impl Record {
         ensures made { IfOk result (IsRecordOf (map field_of fields.items) (given_choice choice) rest) }
         ensures once { IfOk result (λ r. is_twice_named (map field_of fields.items) (given_choice choice) ≡ false) }
         ensures some { IfOk result (λ r. has_no_case (given_choice choice) ≡ false) }
-        ensures fault { IfErr result (λ e. IsFault e (is_twice_named (map field_of fields.items) (given_choice choice)) (has_no_case (given_choice choice))) }
+        ensures fault { IfErr result (λ e.
+            IsFault e (is_twice_named (map field_of fields.items) (given_choice choice)) (has_no_case
+            (given_choice choice))) }
     {
         let Some(fields) = order_fields(fields) else {
             return Err(RecordFault::TwiceNamed);

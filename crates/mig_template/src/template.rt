@@ -1,3 +1,4 @@
+//! Templates, the types of trees.
 ghost use Rattle.std.specs.Prelude.{◌≡◌, ◌↔◌, IfOk, IsTrue};
 
 use crate::kinds::same_kind;
@@ -71,14 +72,6 @@ impl TemplateBox {
         ensures keep { IsKept self.now }
     {
         &*self.template
-    }
-
-    /// Gives the template up.
-    pub fn into_template(self) -> Template
-        ensures { template_of result ≡ self }
-    {
-        let TemplateBox { template } = self;
-        Box::into_inner(template)
     }
 }
 

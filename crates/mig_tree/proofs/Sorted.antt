@@ -10,7 +10,7 @@ use Rattle.mig_model.specs.Plain.{Plain, pairs_of}
 use Rattle.mig_model.specs.Keeps.{Keeps, IsShort, AllPairsKeep}
 use Rattle.mig_model.specs.Names.{by_bytes, IsNamed}
 use Rattle.mig_model.proofs.Ascending.{flips}
-use Rattle.mig_model.proofs.Rising.{ascends_if_distinct}
+use Rattle.mig_model.proofs.Rising.{entries_ascend}
 use Rattle.mig_tree.specs.View.{plain_of, entry_of}
 use Rattle.mig_tree.specs.declared.entries.Entry.{Entry}
 
@@ -22,7 +22,7 @@ keeps_more (x ∷ xs) e k name tree = (k.0, k.1, keeps_more xs e k.2 name tree)
 -- where the pairs have an order in which the names ascend, pairs in order of names ascend
 pub named_if_any : (es : List Entry) (ps : List (List ℕ × Plain)) → IsSortedByKey (λ e. e.name) by_bytes es → IsPermutation (map entry_of es) ps → IsNamed ps → IsNamed (map entry_of es)
 named_if_any es ps sorted same named =
-    ascends_if_distinct entry_of es sorted
+    entries_ascend entry_of es sorted
     (IsDistinct-IsPermutation (eq_by_cmp by_bytes) flips (keys_of ps) (keys_of (map entry_of es))
     (IsPermutation-sym (keys_of (map entry_of es)) (keys_of ps) (IsPermutation-map (λ p. p.0) (map entry_of es) ps same))
     (IsDistinct-from_sorted by_bytes (keys_of ps) named))

@@ -1,3 +1,4 @@
+//! The pairs of a map, in the order of their names.
 ghost use Rattle.std.specs.Prelude.{◌≡◌, [], IfOk, OnOk, OnErr, length, map, option_map, is_some, if◌then◌else◌};
 ghost use Rattle.std.specs.List.Sorted.{IsSearchInRange};
 ghost use Rattle.std_collections.specs.Layout.BTreeMap.{seek};
@@ -5,6 +6,7 @@ ghost use Rattle.mig_model.specs.Names.{by_bytes, IsNamed, with_pair, without, f
 ghost use Rattle.mig_model.specs.Keeps.{EntriesKeep};
 
 use crate::{Memory, Text, Tree};
+use mig_model::{Keyed, place_by_key};
 use std::alloc::Global;
 use std::marker::Model;
 use std::mem;
@@ -15,6 +17,14 @@ use std::mem;
 pub struct Entry<'a> {
     pub name: Text<'a>,
     pub tree: Tree<'a>,
+}
+
+impl<'a> Keyed for Entry<'a> {
+    ghost key = { λ e. e.name };
+
+    fn key(&self) -> &[u8] {
+        self.name.bytes()
+    }
 }
 
 /// The pairs of a map, whose names are distinct and ascend by bytes. Contracts see the list of the pairs.
@@ -75,7 +85,7 @@ impl<'a> Entries<'a> {
         ensures bound { IsSearchInRange result (length list.now) }
         ensures place { result ≡ seek (by_bytes name.now) (map entry_of list.now) }
     {
-        list.binary_search_by(|entry| entry.name.bytes().cmp(name))
+        place_by_key(list, name)
     }
 
     /// These pairs, whose names ascend and whose trees keep what a tree keeps.
@@ -129,7 +139,9 @@ impl<'a> Entries<'a> {
     /// Puts the tree in place of the one that stands under the name, which is answered; where the name isn't there, nothing changes. It takes no memory.
     pub fn swap(&mut self, name: &[u8], tree: Tree<'a>) -> Option<Tree<'a>>
         ensures tree { option_map plain_of result ≡ found name.now self.old }
-        ensures rest { self.new ≡ (if is_some (found name.now self.old) then with_pair name.now (plain_of tree.entry) self.old else self.old) }
+        ensures rest { self.new
+            ≡ (if is_some (found name.now self.old) then with_pair name.now
+            (plain_of tree.entry) self.old else self.old) }
     {
         tree.keeps();
         let _length = name.len();

@@ -1,15 +1,16 @@
-ghost use Rattle.std.specs.Prelude.{◌≡◌, ℕ, List, ◌↔◌, map, IsTrue, IsPermutation, IfSome, IfNone};
-ghost use Rattle.std.specs.List.Sorted.{IsSortedByKey};
+//! The one map of pairs that come in any order.
+ghost use Rattle.std.specs.Prelude.{ℕ, List, map, IsTrue, IsPermutation, IfSome, IfNone};
 ghost use Rattle.mig_model.specs.Plain.{Plain, pairs_of};
-ghost use Rattle.mig_model.specs.Names.{by_bytes, IsNamed};
+ghost use Rattle.mig_model.specs.Names.{IsNamed};
 ghost use Rattle.mig_model.specs.Keeps.{IsShort, AllPairsKeep, EntriesKeep};
 ghost use Rattle.mig_tree.specs.View.{entry_of};
 
 use crate::{Entries, Entry};
-use std::cmp::Ordering;
+use mig_model::{ascends, sort_by_key};
 
-/// Tells what each tree and each name of the list keeps. It changes nothing.
-fn keep_each(list: &[Entry])
+/// Tells what each tree and each name of the list keeps. It is called in a `prove!`, and costs nothing at run time.
+fn entries_are_kept(list: &[Entry]) -> bool
+    ensures always { IsTrue result }
     ensures short { IsShort (map entry_of list.now) }
     ensures each { AllPairsKeep (pairs_of (map entry_of list.now)) }
 {
@@ -18,26 +19,6 @@ fn keep_each(list: &[Entry])
         entry.name.keeps();
         entry.tree.keeps();
     }
-}
-
-/// Sorts by the bytes of the names, in the list's place.
-fn sort_by_name(list: &mut Vec<Entry>)
-    ensures permutation { IsPermutation list.old.items list.new.items }
-    ensures sorted { IsSortedByKey (λ e. e.name) by_bytes list.new.items }
-{
-    list.sort_unstable_by(|one, other| one.name.bytes().cmp(other.name.bytes()));
-}
-
-/// Whether each name stands before the next.
-fn ascends(list: &[Entry]) -> bool
-    ensures { IsTrue result ↔ IsNamed (map entry_of list.now) }
-{
-    for at in 1..list.len() {
-        let before = list[at - 1].name.bytes();
-        if before.cmp(list[at].name.bytes()) != Ordering::Less {
-            return false;
-        }
-    }
     true
 }
 
@@ -45,13 +26,14 @@ fn ascends(list: &[Entry]) -> bool
 pub fn gather<'a>(mut list: Vec<Entry<'a>>) -> Option<Entries<'a>>
     ensures found { IfSome result (IsPermutation (map entry_of list.entry.items)) }
     ensures keep { IfSome result EntriesKeep }
-    ensures twice { IfNone result ((ps : List (List ℕ × Plain)) → IsPermutation (map entry_of list.entry.items) ps → IsNamed ps → ⊥) }
+    ensures twice { IfNone result ((ps : List (List ℕ × Plain)) →
+        IsPermutation (map entry_of list.entry.items) ps → IsNamed ps → ⊥) }
 {
-    sort_by_name(&mut list);
+    sort_by_key(&mut list);
     if !ascends(&list) {
         drop(list);
         return None;
     }
-    keep_each(&list);
+    prove!(entries_are_kept(&list));
     Some(Entries::new(list))
 }

@@ -1,3 +1,4 @@
+//! The items of a list.
 ghost use Rattle.std.specs.Prelude.{◌≡◌, ◌++◌, ◌∷◌, [], OnOk, OnErr, length, map};
 
 use crate::{Memory, Tree};

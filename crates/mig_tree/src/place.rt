@@ -1,3 +1,4 @@
+//! Places in trees, and their texts.
 ghost use Rattle.std.specs.Prelude.{◌≡◌, IfOk};
 
 use crate::write_step::write_step;

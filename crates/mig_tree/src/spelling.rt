@@ -1,3 +1,4 @@
+//! Bytes as printable text.
 ghost use Rattle.std.specs.Prelude.{◌≡◌, ◌<◌, IfOk, flat_map};
 ghost use Rattle.mig_tree.specs.Spelling.{hex_digit, spelled_byte};
 

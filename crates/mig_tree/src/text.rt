@@ -1,3 +1,4 @@
+//! Texts, which are lent from their source or owned.
 ghost use Rattle.std.specs.Prelude.{◌≡◌};
 ghost use Rattle.mig_model.specs.Keeps.{IsShort};
 

@@ -1,3 +1,4 @@
+//! Save trees.
 ghost use Rattle.std.specs.Prelude.{◌≡◌, OnOk, OnErr, option_map};
 
 use crate::{Entries, Items, Kind, Memory, Text};

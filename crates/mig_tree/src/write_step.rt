@@ -1,3 +1,4 @@
+//! The text of one step of a place.
 ghost use Rattle.std.specs.Prelude.{◌≡◌, OnOk, ◌++◌};
 ghost use Rattle.mig_tree.specs.Place.{step_of, step_text};
 

@@ -9,7 +9,7 @@ use Rattle.mig_model.specs.Names.{by_bytes}
 use Rattle.mig_model.specs.Template.{same_name}
 use Rattle.mig_value.specs.Typed.{Typed, Slot}
 use Rattle.mig_value.specs.Kept.{SlotListKept, RecordKept}
-use Rattle.mig_value.proofs.Views.{nothing_ascends}
+use Rattle.mig_model.proofs.Rising.{nothing_ascends}
 
 none_is : (n : List ℕ) (ns : List (List ℕ)) → AllByRecursion (λ m. same_name n m ≡ false) ns → list_any (same_name n) ns ≡ false
 none_is n [] h = refl

@@ -5,24 +5,22 @@ use Rattle.mig_model.specs.Plain.{Plain}
 use Rattle.mig_model.specs.Names.{IsNamed, with_pair, found, gathered}
 use Rattle.mig_model.proofs.Ascending.{gathered_complete}
 use Rattle.mig_value.specs.Typed.{in_order}
+use Rattle.std.proofs.lemmas.Option.{same_Some}
 
 abbrev Pairing : Type 0
 Pairing = List ℕ × Plain
-
-some_is : (a b : List Pairing) → Some a ≡ Some b → a ≡ b
-some_is a b e = cc
 
 abbrev put_if : Pairing → List Pairing → Bool → Option (List Pairing)
 put_if q ps b = if b then None else Some (with_pair q.0 q.1 ps)
 
 -- what is gathered is in order
 pub in_order_gathered : (qs ps : List Pairing) → gathered qs ≡ Some ps → in_order qs ≡ ps
-in_order_gathered [] ps e = some_is [] ps e
+in_order_gathered [] ps e = same_Some [] ps e
 in_order_gathered (q ∷ qs) ps e = by (gathered qs) refl (in_order_gathered qs) e
   where
     put : (rs : List Pairing) (b : Bool) → put_if q rs b ≡ Some ps → with_pair q.0 q.1 rs ≡ ps
     put rs true e' = absurd cc
-    put rs false e' = some_is (with_pair q.0 q.1 rs) ps e'
+    put rs false e' = same_Some (with_pair q.0 q.1 rs) ps e'
 
     by : (o : Option (List Pairing)) → gathered qs ≡ o → ((rs : List Pairing) → gathered qs ≡ Some rs → in_order qs ≡ rs) → option_and_then (λ rs. put_if q rs (is_some (found q.0 rs))) o ≡ Some ps → with_pair q.0 q.1 (in_order qs) ≡ ps
     by None h rest e' = absurd cc

@@ -1,8 +1,7 @@
 -- Plain values and the lists that they are made of.
-use Rattle.std.proofs.Common.{◌≡◌, List, [], ◌∷◌, refl, sym, ap, subst}
-use Rattle.std.specs.List.Sorted.{IsStrictlySortedBy}
-use Rattle.mig_model.specs.Ascends.{Ascends}
-use Rattle.mig_value.specs.Typed.{Typed, Slot, items, items_of, slots, slots_of}
+use Rattle.std.proofs.Common.{◌≡◌, ℕ, List, [], ◌∷◌, refl, sym, ap, subst}
+use Rattle.mig_value.specs.Typed.{Typed, Slots, no_slot, slot, Slot, items, items_of, slots, slots_of}
+use Rattle.mig_value.specs.Fit.{EachSlot}
 use Rattle.mig_value.specs.Parts.{RecordParts, IsRecord, record_of}
 use Rattle.mig_value.specs.Kept.{IsKept, RecordKept}
 
@@ -14,13 +13,18 @@ pub slots_again : (ss : List Slot) → slots (slots_of ss) ≡ ss
 slots_again [] = refl
 slots_again (s ∷ ss) = ap (λ l. s ∷ l) (slots_again ss)
 
+pub slots_whole : (ss : Slots) → slots_of (slots ss) ≡ ss
+slots_whole no_slot = refl
+slots_whole (slot n v ss) = ap (λ l. slot n v l) (slots_whole ss)
+
+-- what holds of each slot
+pub weaker_slots : (P Q : List ℕ → Typed → Type 0) → ((n : List ℕ) (v : Typed) → P n v → Q n v) → (ss : Slots) → EachSlot P ss → EachSlot Q ss
+weaker_slots P Q f no_slot e = tt
+weaker_slots P Q f (slot n v ss) e = (f n v e.0, weaker_slots P Q f ss e.1)
+
 -- the parts of a record are those of its value
 pub parts_again : (p : RecordParts) → ◌≡◌ {A = RecordParts} (record { fields = slots (slots_of p.fields); tag = p.tag; cased = slots (slots_of p.cased); rest = slots (slots_of p.rest) }) p
 parts_again p = λ i. record { fields = slots_again p.fields i; tag = p.tag; cased = slots_again p.cased i; rest = slots_again p.rest i }
 
 pub record_kept : (p : RecordParts) → RecordKept p → IsKept (record_of p)
 record_kept p k = (subst IsRecord (sym (parts_again p)) k.0, k.1)
-
-pub nothing_ascends : (A : Type 0) → Ascends {A = A} []
-unfolding IsStrictlySortedBy
-nothing_ascends A = tt

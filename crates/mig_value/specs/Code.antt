@@ -1,24 +1,12 @@
 -- Typed values as stored values, so that a struct may have them as its value.
 use Rattle.std.specs.Prelude.{ℕ, List, ◌≡◌, refl, Option}
-use Rattle.std.specs.Coded.{Coded, code_by, coded_ℕ, coded_list, coded_option, coded×}
+use Rattle.std.specs.Coded.{Coded, code_by, coded_list, coded_option, coded×}
 use Rattle.std.proofs.Common.{ap, ap₂, arith}
 use base.Stored.{Gv, gnil, gnum, gcons, num}
 use Rattle.mig_model.specs.Code.{coded_plain}
+use Rattle.mig_model.specs.Stored.{head, tail, coded_name}
 use Rattle.mig_value.specs.Typed.{Typed, atom, list, left, right, rec, point, Items, no_item, item, Slots, no_slot, slot, Slot, Tag}
 use Rattle.mig_value.specs.Parts.{RecordParts, Besides, NodeParts}
-
-abbrev head : Gv → Gv
-head gnil = gnil
-head (gnum n) = gnil
-head (gcons a b) = a
-
-abbrev tail : Gv → Gv
-tail gnil = gnil
-tail (gnum n) = gnil
-tail (gcons a b) = b
-
-abbrev pub coded_name : Coded (List ℕ)
-coded_name = coded_list coded_ℕ
 
 abbrev pub coded_tag : Coded (Option Tag)
 coded_tag = coded_option (coded× coded_name coded_name)

@@ -1,3 +1,4 @@
+//! A value behind a box, as values hold values.
 ghost use Rattle.std.specs.Prelude.{◌≡◌, IfOk};
 
 use crate::{Memory, Value};

@@ -1,3 +1,4 @@
+//! What counts the nodes that are entered.
 use mig_tree::Steps;
 use std::sync::ledger::Ledger;
 

@@ -48,7 +48,8 @@ impl<'a> Extras<'a> {
 
     /// These parts, on the heap.
     pub fn new(alloc: Global, parts: ExtraParts<'a>) -> Result<Extras<'a>, Memory>
-        ensures { IfOk result (λ e. e ≡ record { tag = parts.entry.tag; cased = parts.entry.cased; rest = parts.entry.rest }) }
+        ensures { IfOk result (λ e. e
+            ≡ record { tag = parts.entry.tag; cased = parts.entry.cased; rest = parts.entry.rest }) }
     {
         Ok(Extras {
             parts: Box::new(alloc, parts)?,
@@ -99,7 +100,8 @@ impl<'a> Extras<'a> {
 
 /// The parts on the heap, where there are any.
 pub fn boxed<'a>(alloc: Global, parts: ExtraParts<'a>) -> Result<Option<Extras<'a>>, Memory>
-    ensures { IfOk result (λ o. beside o ≡ record { tag = parts.entry.tag; cased = parts.entry.cased; rest = parts.entry.rest }) }
+    ensures { IfOk result (λ o. beside o
+        ≡ record { tag = parts.entry.tag; cased = parts.entry.cased; rest = parts.entry.rest }) }
 {
     if parts.tag.is_none() && parts.cased.is_empty() && parts.rest.is_empty() {
         return Ok(None);

@@ -1,3 +1,4 @@
+//! What the values of a list keep, told to a proof.
 ghost use Rattle.std.specs.Prelude.{IsTrue, map};
 ghost use Rattle.mig_value.specs.Typed.{items_of, slots_of};
 ghost use Rattle.mig_value.specs.Kept.{ItemsKept, SlotsKept};

@@ -1,3 +1,4 @@
+//! Laws of values that fit.
 ghost use Rattle.mig_value.specs.Law.{FitUnfolds, ReadFits};
 
 /// A value is one of a named type exactly where it is one of its body, and the bodies of its nodes are ones of theirs.

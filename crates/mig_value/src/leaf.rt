@@ -1,3 +1,4 @@
+//! Leaves: whether a value is one, and the leaf of a value or of a node in it.
 ghost use Rattle.std.specs.Prelude.{◌≡◌, None, Some, IfErr, IfOk, IsTrue, is_some};
 ghost use Rattle.mig_tree.specs.View.{plain_of};
 ghost use Rattle.mig_model.specs.Kinds.{kind_of};

@@ -1,3 +1,4 @@
+//! Nodes: a tree of a named type, read as a value.
 ghost use Rattle.std.specs.Prelude.{◌≡◌, ◌+◌};
 
 use crate::{Counter, Name, Tree, Value};

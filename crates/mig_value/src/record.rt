@@ -59,7 +59,8 @@ impl<'a> RecValue<'a> {
         rest: Slots<'a>,
     ) -> Result<RecValue<'a>, Memory>
         requires { has_twice (names_in (record { fields = fields; tag = tag; cased = cased; rest = rest })) ≡ false }
-        ensures { IfOk result (λ r. r ≡ record { fields = fields.entry; tag = tag.entry; cased = cased.entry; rest = rest.entry }) }
+        ensures { IfOk result (λ r. r
+            ≡ record { fields = fields.entry; tag = tag.entry; cased = cased.entry; rest = rest.entry }) }
     {
         let _fields = fields.as_slice();
         let _cased = cased.as_slice();

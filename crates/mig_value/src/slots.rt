@@ -1,8 +1,10 @@
+//! The slots of a record value, in the order of their names.
 ghost use Rattle.std.specs.Prelude.{◌≡◌, ◌<◌, [], eqb, length, map};
 ghost use Rattle.mig_model.specs.Ascends.{Ascends};
 
 use crate::keeping::slots_are_kept;
 use crate::{Text, Value};
+use mig_model::{Keyed, place_by_key};
 use std::alloc::Global;
 use std::marker::Model;
 use std::mem;
@@ -13,6 +15,14 @@ use std::mem;
 pub struct Slot<'a> {
     pub name: Text<'a>,
     pub value: Value<'a>,
+}
+
+impl<'a> Keyed for Slot<'a> {
+    ghost key = { λ s. s.name };
+
+    fn key(&self) -> &[u8] {
+        self.name.bytes()
+    }
 }
 
 /// Slots whose names are distinct and ascend by bytes. Contracts see the list of the names and the plain values.
@@ -91,9 +101,7 @@ impl<'a> Slots<'a> {
     pub fn place(&self, name: &[u8]) -> Option<usize>
         ensures { result ≡ place_in name.now self.now }
     {
-        self.list
-            .binary_search_by(|slot| slot.name.bytes().cmp(name))
-            .ok()
+        place_by_key(&self.list, name).ok()
     }
 
     /// Takes the value at a place out and leaves this one there. It takes no memory.

@@ -1,3 +1,4 @@
+//! Typed values.
 use crate::leaf::{has_leaf, take_leaf};
 use crate::{Node, RecValue, Tree, ValueBox, Values};
 use std::mem::size_of;

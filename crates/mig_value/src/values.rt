@@ -1,3 +1,4 @@
+//! The values of a list.
 ghost use Rattle.std.specs.Prelude.{◌≡◌, map};
 
 use crate::Value;

@@ -14,10 +14,10 @@ returns c =
     let new = c.args.fields in
     let old = map slot_of c.args.slots.items in
     let before = c.append.new.self.items in
-    let after = c.sort_by_name.new.list.items in
+    let after = c.sort_by_key.new.list.items in
     let together : map slot_of before ≡ new ++ others (keys_of new) old =
     ap (λ (l : List code.Slot). map slot_of l) c.in_ok-append.ensures.items
     ∙ map_append slot_of c.into_vec-list.result.items c.keep_others.new.slots.items
     ∙ (λ i. c.into_vec-list.ensures.slots i ++ c.keep_others.ensures i) in
     merged_is slot_of after new old (map slot_of before) c.into_vec-list.ensures.keep.0 c.requires (ascends-others (keys_of new) old c.requires) together
-    (IsPermutation-map slot_of before after c.sort_by_name.ensures.permutation) c.sort_by_name.ensures.sorted
+    (IsPermutation-map slot_of before after c.sort_by_key.ensures.permutation) c.sort_by_key.ensures.sorted

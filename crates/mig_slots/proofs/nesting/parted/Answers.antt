@@ -5,7 +5,7 @@ use Rattle.mig_value.specs.View.{slot_of}
 use Rattle.mig_value.specs.declared.slots.Slot.{Slot}
 use Rattle.mig_action.specs.Edits.{those, others}
 use Rattle.mig_slots.proofs.Filtered.{kept_more, other_way}
-use Rattle.mig_slots.proofs.Loops.{all_behind}
+use Rattle.mig_model.proofs.Loops.{all_behind}
 use Rattle.mig_slots.proofs.nesting.parted.Goals as goal
 
 pub loop-slot-preserved : goal.loop-slot-preserved

@@ -9,5 +9,5 @@ returns c =
     let is : c.as_slice.result.now ≡ c.args.self.now = c.as_slice.ensures.names in
     let s : AreSorted c.as_slice.result.now = subst AreSorted (sym is) c.as_slice.ensures.sorted in
     c.is_ok.ensures.value
-    ∙ search_tells c.as_slice.result.now c.args.name.now c.place.result s c.place.ensures.bound c.place.ensures.place
+    ∙ search_tells c.as_slice.result.now c.args.name.now c.place_by_key.result s c.place_by_key.ensures.bound c.place_by_key.ensures.place
     ∙ (λ i. is_among (is i) c.args.name.now)

@@ -1,9 +1,12 @@
 use Rattle.std.proofs.Common.{◌∙◌, ap, sym, subst}
 use Rattle.mig_model.specs.Family.{has_twice}
-use Rattle.mig_slots.specs.Sorted.{AreSorted}
+use Rattle.mig_model.proofs.Rising.{ascend_by, by_ascends}
+use Rattle.mig_slots.specs.Sorted.{AreSorted, alone}
 use Rattle.mig_slots.proofs.SearchNames.{twice_told}
 use Rattle.mig_slots.proofs.names.Names.has_twice.Goals as goal
 
 pub returns : goal.returns
 returns c =
-    twice_told c.ascends.result c.as_slice.result.now (subst AreSorted (sym c.as_slice.ensures.names) c.as_slice.ensures.sorted) c.ascends.ensures ∙ ap has_twice c.as_slice.ensures.names
+    let ns = c.as_slice.result.now in
+    twice_told c.ascends.result ns (subst AreSorted (sym c.as_slice.ensures.names) c.as_slice.ensures.sorted)
+    (λ told. by_ascends alone ns (c.ascends.ensures.0 told), λ rises. c.ascends.ensures.1 (ascend_by alone ns rises)) ∙ ap has_twice c.as_slice.ensures.names

@@ -9,8 +9,9 @@ use Rattle.mig_template.specs.Fault.{IsFault}
 use Rattle.mig_template.specs.Parts as parts
 use Rattle.mig_template.specs.Parts.{is_among, is_twice_in, is_twice_named, has_no_case}
 use Rattle.mig_template.specs.View.{field_of, case_of, given_case, given_choice}
-use Rattle.mig_template.proofs.CaseLists.{named_moved, tag_twice, tag_once, none_twice, fault_more, as_many, twice_in_parts}
+use Rattle.mig_template.proofs.CaseLists.{named_moved, tag_twice, tag_once, fault_more, as_many, twice_in_parts}
 use Rattle.mig_template.proofs.Sorted.{once_if_ascends}
+use Rattle.mig_model.proofs.Bools.{both_false}
 use Rattle.mig_template.proofs.record.Record.new.Goals as goal
 
 pub invariant_of-result : goal.invariant_of-result
@@ -65,7 +66,7 @@ returns-then-is_empty-clause-fault c =
     let cs : List parts.Case = map case_of c.in_ok-cases.cases.items in
     let many : c.in_ok-cases.cases.len ≡ length gs = omega (arith, c.in_ok-cases.cases.ok.0, length-map c.in_ok-cases.cases.items case_of, as_many gs cs c.in_ok-cases.ensures.ordered) in
     let none : has_no_case (given_choice c.args.choice) ≡ c.is_empty.result = ap has_no_case is ∙ ap (λ (n : ℕ). n == 0) (sym many) ∙ sym c.is_empty.ensures in
-    (moved ∙ none_twice (has_twice others) (is_twice_in others gs) free c.in_ok-cases.ensures.once, none ∙ c.if-is_empty.true)
+    (moved ∙ both_false (has_twice others) (is_twice_in others gs) free c.in_ok-cases.ensures.once, none ∙ c.if-is_empty.true)
 
 pub invariant_of-result-2 : goal.invariant_of-result-2
 invariant_of-result-2 c =
@@ -84,7 +85,7 @@ invariant_of-result-2 c =
       record {
         fields = c.in-Some.ensures.found.ascend;
         cases = (o.1.1.ascend, c.in_ok-cases.ensures.ascend);
-        distinct = none_twice (has_twice others) (is_twice_in others cs) free apart;
+        distinct = both_false (has_twice others) (is_twice_in others cs) free apart;
         some = some;
       },
       (c.in-Some.ensures.keep, c.in_ok-cases.ensures.kept),
@@ -101,7 +102,7 @@ returns-clause-once c =
     let moved : is_twice_named fs (given_choice c.args.choice) ≡ is_twice_named hs (Some (tag, gs, kept)) = ap (is_twice_named fs) is ∙ named_moved fs hs c.in-Some.ensures.found.same (Some (tag, gs, kept)) in
     let others = tag ∷ keys_of hs in
     let free : has_twice others ≡ false = tag_once hs tag (ap (is_among (keys_of hs)) (sym c.bytes.ensures) ∙ sym c.has.ensures ∙ c.if-has.false) (once_if_ascends hs c.in-Some.ensures.found.ascend) in
-    moved ∙ none_twice (has_twice others) (is_twice_in others gs) free c.in_ok-cases.ensures.once
+    moved ∙ both_false (has_twice others) (is_twice_in others gs) free c.in_ok-cases.ensures.once
 
 pub returns-clause-some : goal.returns-clause-some
 returns-clause-some c =

@@ -1,14 +1,7 @@
-use Rattle.std.proofs.Common.{rules}
 use Rattle.std.proofs.lemmas.Cmp.{nat_list_cmp_total}
-use Rattle.std.proofs.lemmas.Fn.{always_returns_same}
-use Rattle.mig_model.specs.Names.{by_bytes}
 use Rattle.mig_model.proofs.Searches.{searched}
 use Rattle.mig_tree.specs.View.{entry_of}
 use Rattle.mig_tree.proofs.entries.Entries.place.Goals as goal
 
 pub returns-clause-place : goal.returns-clause-place
-returns-clause-place c =
-    let name = c.args.name.now in
-    let facts = c.binary_search_by.ensures in
-    searched nat_list_cmp_total entry_of name c.args.list.now c.binary_search_by.result c.requires facts.bound
-    (facts.position (λ e. by_bytes e.name name) (always_returns_same _ _ _ (λ a r f' q. (search rules, search rules))))
+returns-clause-place c = searched nat_list_cmp_total entry_of c.args.name.now c.args.list.now c.place_by_key.result c.requires c.place_by_key.ensures.bound c.place_by_key.ensures.place

@@ -3,7 +3,7 @@ use Rattle.mig_value.specs.Typed.{Typed}
 use Rattle.mig_value.specs.Kept.{SlotListKept}
 use Rattle.mig_value.specs.View.{slot_of}
 use Rattle.mig_value.specs.declared.slots.Slot.{Slot}
-use Rattle.mig_value.proofs.Views.{nothing_ascends}
+use Rattle.mig_model.proofs.Rising.{nothing_ascends}
 use Rattle.mig_value.proofs.slots.Slots.empty.Goals as goal
 
 pub invariant_of-result : goal.invariant_of-result

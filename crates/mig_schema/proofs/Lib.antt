@@ -1,9 +1,12 @@
 pub mod Among
 pub mod First
+pub mod Inserted
 pub mod Paths
 pub mod Reached
 pub mod Search
+pub mod Searched
 pub mod Spots
 pub mod Types
+pub mod Users
 pub mod Ways
 pub mod Within

@@ -3,14 +3,7 @@ use Rattle.std.proofs.Common.{◌≡◌, ◌∙◌, ℕ, List, [], ◌∷◌, Bo
 use Rattle.std.specs.Prelude.{◌&&◌}
 use Rattle.std.specs.Cmp.Lexicographic.{pointwise, bytes_decides, nat_list_eq_equiv}
 use Rattle.std.proofs.lemmas.Cmp.{lists_equiv}
-
-first_true : (a b : Bool) → (a && b) ≡ true → a ≡ true
-first_true true b e = refl
-first_true false b e = absurd cc
-
-second_true : (a b : Bool) → (a && b) ≡ true → b ≡ true
-second_true true b e = e
-second_true false b e = absurd cc
+use Rattle.mig_model.proofs.Bools.{first_true, second_true}
 
 pub equal_if_alike : (xs ys : List (List ℕ)) → pointwise (pointwise nat_eq) xs ys ≡ true → xs ≡ ys
 equal_if_alike [] [] e = refl

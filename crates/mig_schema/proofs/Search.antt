@@ -32,3 +32,7 @@ pub case_points_more : (cs : List Case) (i : ℕ) (c : Case) → i < length cs �
     → field_points (fields_of c.fields) ++ case_points (cases_of (map case_of (drop (i + 1) cs))) ≡ case_points (cases_of (map case_of (drop i cs)))
 case_points_more cs i c l e =
     ap (λ (d : Case). field_points (fields_of d.fields) ++ case_points (cases_of (map case_of (drop (i + 1) cs)))) e ∙ sym (at_drop_more (λ ds. case_points (cases_of (map case_of ds))) cs i c l)
+
+-- the names that are left, one step on
+pub names_more : (ts : List Named) (ns : List (List ℕ)) (i : ℕ) (n : List ℕ) → i < length ns → n ≡ get_or ns i n → places ts ((n ∷ []) ++ drop (i + 1) ns) ≡ places ts (drop i ns)
+names_more ts ns i n l e = ap (λ (m : List ℕ). places ts (m ∷ drop (i + 1) ns)) e ∙ sym (at_drop_more (places ts) ns i n l)

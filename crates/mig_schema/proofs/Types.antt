@@ -16,6 +16,7 @@ use Rattle.mig_template.specs.declared.template.Template.{Template}
 use Rattle.mig_template.specs.View.{template_of}
 use Rattle.mig_template.proofs.Names.{once_if_apart}
 use Rattle.mig_schema.specs.Types.{Named, named_of, named_all, place_of}
+use Rattle.mig_model.proofs.Bools.{first_false, second_false}
 
 -- two names are equal by the `==` of names exactly where they have the same bytes
 pub equal_is_same : pointwise nat_eq ≡ same_name
@@ -43,9 +44,6 @@ body_at_is (t ∷ ts) zero = refl
 body_at_is (t ∷ ts) (suc k) = body_at_is ts k
 
 -- ---- look-ups
-
-pub same_is : (x y : List ℕ) → same_name x y ≡ true → x ≡ y
-same_is x y e = (bytes_decides x y).0 (texts_ties x y ∙ e)
 
 pub found_here : (n : List ℕ) (t : Named) (ts : List Named) → same_name n t.0 ≡ true → find_type n (t ∷ ts) ≡ Some t.1
 found_here n t ts q = rw q refl
@@ -81,14 +79,6 @@ is_some_find n (t ∷ ts) = by (same_name n t.0) refl (is_some_find n ts)
 
 pub once_if_unique : (ts : List (List ℕ × Template)) → IsDistinct (pointwise nat_eq) (keys_of ts) → has_twice (keys_of (named_all ts)) ≡ false
 once_if_unique ts h = ap has_twice (names_kept ts) ∙ once_if_apart (keys_of ts) (subst (λ e. IsDistinct e (keys_of ts)) equal_is_same h)
-
-pub first_false : (a b : Bool) → (a || b) ≡ false → a ≡ false
-first_false false b e = refl
-first_false true b e = absurd cc
-
-pub second_false : (a b : Bool) → (a || b) ≡ false → b ≡ false
-second_false false b e = e
-second_false true b e = absurd cc
 
 -- where no name stands twice, none stands before itself
 apart_before : (ks : List (List ℕ)) (n : List ℕ) (ms : List (List ℕ)) → has_twice (ks ++ n ∷ ms) ≡ false → list_any (same_name n) ks ≡ false

@@ -11,7 +11,8 @@ use Rattle.mig_model.specs.Template as model
 use Rattle.mig_model.specs.Template.{same_name}
 use Rattle.mig_template.proofs.Names.{apart_if_once}
 use Rattle.mig_schema.specs.Types.{Named, IsWithin}
-use Rattle.mig_schema.proofs.Types.{same_name_laws, same_is, found_here, found_later, is_some_find}
+use Rattle.mig_schema.proofs.Types.{same_name_laws, found_here, found_later, is_some_find}
+use Rattle.mig_model.proofs.SameNames.{same_name_is}
 
 pub none_within : (us : List Named) → IsWithin [] us
 none_within us n V e = absurd cc
@@ -21,7 +22,7 @@ pub one_more_within : (t : Named) (ts us : List Named) → find_type t.0 us ≡ 
 one_more_within t ts us h w n V = by (same_name n t.0) refl
   where
     by : (b : Bool) → same_name n t.0 ≡ b → find_type n (t ∷ ts) ≡ Some V → find_type n us ≡ Some V
-    by true q e = ap (λ m. find_type m us) (same_is n t.0 q) ∙ h ∙ sym (found_here n t ts q) ∙ e
+    by true q e = ap (λ m. find_type m us) (same_name_is n t.0 q) ∙ h ∙ sym (found_here n t ts q) ∙ e
     by false q e = w n V (sym (found_later n t ts q) ∙ e)
 
 -- a name of types that are within others is a name of those

@@ -5,7 +5,8 @@ use Rattle.mig_model.specs.declared.form.Form.{Form}
 use Rattle.mig_model.specs.declared.form.Form.TheVariants as F
 use Rattle.mig_model.specs.Family.{Family}
 use Rattle.mig_model.specs.Template.{is_nbt}
-use Rattle.mig_template.specs.Code.{coded_name, coded_template}
+use Rattle.mig_model.specs.Stored.{coded_name}
+use Rattle.mig_template.specs.Code.{coded_template}
 use Rattle.mig_schema.specs.Types.{Named, family_of}
 
 abbrev pub coded_path : Coded (List (List ℕ))

@@ -1,3 +1,4 @@
+//! What makes a body faulty by its own parts alone.
 ghost use Rattle.std.specs.Prelude.{◌≡◌};
 ghost use Rattle.mig_model.specs.declared.kind.Kind as model;
 ghost use Rattle.mig_model.specs.Family.{has_kind_in, is_unknown, has_point_side, sides_overlap, is_mixed, is_point, any_inside, any_in_fields, any_in_cases};

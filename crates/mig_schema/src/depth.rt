@@ -1,3 +1,4 @@
+//! Whether a template is deeper than it may be.
 ghost use Rattle.std.specs.Prelude.{◌≡◌, nat_lt};
 ghost use Rattle.mig_model.specs.Family.{nests, fields_nest, cases_nest};
 ghost use Rattle.mig_model.specs.Template.{fields_of, cases_of};

@@ -1,3 +1,4 @@
+//! Families.
 ghost use Rattle.std.specs.Prelude.{◌≡◌, ◌<◌, ◌↔◌, Some, IsTrue, length, option_map, IfOk, IfErr};
 ghost use Rattle.std.specs.List.{slice_get};
 ghost use Rattle.std.specs.Map.{keys_of, values_of};
@@ -5,7 +6,7 @@ ghost use Rattle.mig_model.specs.Family.{IsFormed, IsSame, find_type, is_named, 
 ghost use Rattle.mig_template.specs.View.{template_of};
 ghost use Rattle.mig_schema.specs.Types.{named_all, family_of, AllKept};
 ghost use Rattle.mig_schema.specs.Fault.{IsFault};
-ghost use Rattle.mig_schema.specs.Reach.{Reaches, ArePlacesReached};
+ghost use Rattle.mig_schema.specs.Reach.{Reaches, ArePlacesReached, ArePlacesReaching};
 
 use crate::checks::Check;
 use crate::named::NamedTypes;
@@ -46,7 +47,8 @@ impl Family {
     ) -> Result<Family, SchemaFault>
         ensures made { IfOk result (λ f. f ≡ family_of form version (named_all types.items) root) }
         ensures formed { IfOk result (λ f. IsFormed f) }
-        ensures fault { IfErr result (λ e. IsFault e (first_flaw (family_of form version (named_all types.items) root))) }
+        ensures fault { IfErr result (λ e.
+            IsFault e (first_flaw (family_of form version (named_all types.items) root))) }
     {
         let types = NamedTypes::new(alloc, types)?;
         let parts = Parts::new(form, version, types, root);
@@ -144,6 +146,13 @@ impl Family {
         ensures { IfOk result (λ found. ArePlacesReached self.now from.now found.keys) }
     {
         self.parts.reached(alloc, from)
+    }
+
+    /// The places, in the order of declaration, of the types that reach one of the names, as far as these are types, which are among them. Each body is visited once.
+    pub fn reaching(&self, alloc: Global, names: &[Name]) -> Result<IndexSet<usize>, Memory>
+        ensures { IfOk result (λ found. ArePlacesReaching self.now names.now found.keys) }
+    {
+        self.parts.reaching(alloc, names)
     }
 
     /// Whether the first name reaches the second: it is that name, or a point in its body is to a name that reaches it. Each body is visited at most once.

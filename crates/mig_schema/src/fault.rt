@@ -1,3 +1,4 @@
+//! Why named templates make no family.
 ghost use Rattle.std.specs.Prelude.{◌≡◌};
 ghost use Rattle.mig_schema.specs.declared.fault.SchemaFault.TheVariants as faults;
 

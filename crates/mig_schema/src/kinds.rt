@@ -1,3 +1,4 @@
+//! Sets of one kind, and leaves of another form.
 ghost use Rattle.std.specs.Prelude.{◌≡◌, ◌&&◌, not};
 ghost use Rattle.mig_model.specs.Family.{kinds, is_one, is_wrong_leaf};
 ghost use Rattle.mig_model.specs.Template.{is_of_form};

@@ -1,3 +1,4 @@
+//! Named types, in the order of declaration, with one look-up for each name.
 ghost use Rattle.std.specs.Prelude.{◌≡◌, ◌↔◌, ◌<◌, ◌++◌, ◌∷◌, [], length, map, option_map, false, IsTrue, IfOk, IfErr, None, Some, ℕ, List, nat_eq};
 ghost use Rattle.std.specs.Cmp.Lexicographic.{pointwise};
 ghost use Rattle.std.specs.List.{slice_get};

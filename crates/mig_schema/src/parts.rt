@@ -1,3 +1,4 @@
+//! The parts of a family, and the first fault that they have.
 ghost use Rattle.std.specs.Prelude.{◌≡◌, ◌||◌, false, length, option_map, nat_lt, IfOk};
 ghost use Rattle.std.specs.List.{slice_get};
 ghost use Rattle.std.specs.Map.{keys_of};
@@ -236,7 +237,8 @@ impl Parts {
 
     /// The record at the end of the way from the template, and `None` where the way leads to none.
     fn way_end<'s>(&'s self, names: &[Name], template: &'s Template) -> Option<&'s Record>
-        ensures { option_map (λ r. record_of r.now) result ≡ record_only (way_end self.now names.now (template_of template.now)) }
+        ensures { option_map (λ r. record_of r.now) result
+            ≡ record_only (way_end self.now names.now (template_of template.now)) }
     {
         let Template::Rec(record) = template else {
             return None;

@@ -202,7 +202,8 @@ fn put_under<'a>(
 ) -> Result<(), Memory>
     requires some { 0 < length names.now }
     requires spot { IsSome (spot names.now (plain_of tree.old)) }
-    ensures ok { OnOk result (plain_of tree.new ≡ on_spot (put_in last.entry (plain_of version.entry)) names.now (plain_of tree.old)) }
+    ensures ok { OnOk result (plain_of tree.new
+        ≡ on_spot (put_in last.entry (plain_of version.entry)) names.now (plain_of tree.old)) }
     ensures err { OnErr result (plain_of tree.new ≡ plain_of tree.old) }
 {
     let (first, rest) = names.split_first().unwrap();

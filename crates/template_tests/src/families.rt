@@ -198,7 +198,7 @@ fn is_at_one(family: &Family, places: &[usize], name: &Name) -> bool {
     false
 }
 
-/// Both names are of the family, and whether the first reaches the second is as wanted, asked in both ways.
+/// Both names are of the family, and whether the first reaches the second is as wanted, asked in all three ways.
 fn check_reach(
     rt: &impl Abort,
     alloc: Global,
@@ -214,6 +214,10 @@ fn check_reach(
     assert_eq!(rt; reached, want);
     let places = family.reached(alloc, &from).expect(rt, MEMORY);
     assert_eq!(rt; is_at_one(family, places.as_slice(), &to), want);
+    let mut names = Vec::new(alloc);
+    names.push(to).expect(rt, MEMORY);
+    let places = family.reaching(alloc, &names).expect(rt, MEMORY);
+    assert_eq!(rt; is_at_one(family, places.as_slice(), &from), want);
 }
 
 #[test]

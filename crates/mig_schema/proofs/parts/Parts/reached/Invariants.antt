@@ -1,9 +1,10 @@
-use Rattle.std.proofs.Common.{◌-◌, length}
-use Rattle.mig_schema.proofs.Reached.{Searched}
+use Rattle.std.proofs.Common.{◌-◌, ◌∷◌, [], length}
+use Rattle.mig_schema.specs.Reach.{Uses, places}
+use Rattle.mig_schema.proofs.Searched.{Searched}
 use Rattle.mig_schema.proofs.parts.Parts.reached.Given as goal
 
 abbrev pub invariant-loop-at : goal.invariant-loop-at
-invariant-loop-at l = Searched l.self l.from l.found.keys l.at
+invariant-loop-at l = Searched (Uses l.self.types) (places l.self.types (l.from ∷ [])) l.found.keys l.at
 
 abbrev pub decreases-loop-at : goal.decreases-loop-at
 decreases-loop-at l = length l.self.types - l.at

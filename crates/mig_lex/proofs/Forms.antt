@@ -1,7 +1,6 @@
 -- The forms of a token, told by its first byte.
-use Rattle.std.proofs.Common.{zero, suc, ◌≡◌, ◌≢◌, ◌⊎◌, inl, inr, ℕ, ◌<◌, ◌≤◌, ◌^◌, Bool, true, false, cond, ◌&&◌, nat_le, nat_lt, List, [], ◌∷◌, ◌++◌, length, get_or, Option, Some, None, ℤ, nat_abs, bytes_eq, refl, sym, ap, subst, ◌∙◌, arith, ltb-true, leb-true}
+use Rattle.std.proofs.Common.{◌≡◌, ◌≢◌, ◌⊎◌, inl, inr, ℕ, ◌<◌, ◌≤◌, ◌^◌, Bool, true, false, ◌&&◌, nat_le, nat_lt, List, [], ◌∷◌, ◌++◌, length, get_or, ℤ, nat_abs, refl, sym, ap, subst, ◌∙◌, arith, ltb-true, leb-true}
 use Rattle.std.proofs.lemmas.Bool.{and_parts}
-use Rattle.std.specs.Cmp.Lexicographic.{same_text}
 use Rattle.std.proofs.lemmas.List.{append_cancel_right}
 use Rattle.std.specs.Str.{chars, IsUtf8}
 use Rattle.std.specs.Fmt.{signed_decimal}
@@ -9,7 +8,7 @@ use Rattle.std.specs.List.{AllByRecursion}
 use Rattle.mig_token.specs.declared.mark.Mark.{Mark}
 use Rattle.mig_token.specs.declared.mark.Mark.TheVariants as M
 use Rattle.mig_token.specs.Spelling.{spelling}
-use Rattle.mig_lex.specs.declared.mark.TheConstants.{MARKS}
+use Rattle.mig_token.proofs.Marks.{one_mark}
 use Rattle.mig_token.specs.Token.{Tok, mark, name, number, text}
 use Rattle.mig_token.specs.Lexical.{IsWhite, IsLetter, IsWordByte, IsWord, IsStringChar, IsToken, a_mark, a_name, a_number, a_string}
 use Rattle.mig_lex.specs.Reading.{IsDigit}
@@ -218,31 +217,6 @@ has_byte {b = b} x = some b (form_some (form_of x))
     some (c ∷ cs) h = omega arith
 
 -- ---- a token's bytes have one token
-abbrev spelled_in : List ℕ → List Mark → Option Mark
-spelled_in b [] = None
-spelled_in b (m ∷ ms) = cond (bytes_eq b (spelling m)) (Some m) (spelled_in b ms)
-
-found : (m : Mark) → spelled_in (spelling m) MARKS ≡ Some m
-found M.Form = refl
-found _ = refl
-
--- no mark is spelled so where none of the list is
-none_spelled : (b : List ℕ) (ms : List Mark) → ((k : ℕ) → k < length ms → b ≢ spelling (get_or ms k M.Form)) → spelled_in b ms ≡ None
-none_spelled b [] other = refl
-none_spelled b (m ∷ ms) other = by (bytes_eq b (spelling m)) refl (none_spelled b ms (λ k h. other (suc k) (omega arith)))
-  where
-    by : (t : Bool) → bytes_eq b (spelling m) ≡ t → spelled_in b ms ≡ None → cond t (Some m) (spelled_in b ms) ≡ None
-    by true e behind = absurd (other zero (omega arith) (same_text b (spelling m) (sym e)))
-    by false e behind = behind
-
-pub no_mark : (b : List ℕ) → ((k : ℕ) → k < 80 → b ≢ spelling (get_or MARKS k M.Form)) → (m : Mark) → b ≢ spelling m
-no_mark b other m e =
-    let both : Some m ≡ None = sym (found m) ∙ ap (λ (l : List ℕ). spelled_in l MARKS) (sym e) ∙ none_spelled b MARKS other in
-    cc
-
-one_mark : (m n : Mark) → spelling m ≡ spelling n → m ≡ n
-one_mark m n e = let both : Some m ≡ Some n = sym (found m) ∙ ap (λ (b : List ℕ). spelled_in b MARKS) e ∙ found n in cc
-
 mark_number : (m : Mark) (z : ℤ) → nat_abs z < 10 ^ 20 → spelling m ≡ signed_decimal z → ⊥
 mark_number m z small e = by (word_or_sign m)
   where

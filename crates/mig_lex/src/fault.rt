@@ -1,3 +1,4 @@
+//! Why a text is no tokens.
 ghost use Rattle.std.specs.Prelude.{◌≡◌};
 ghost use Rattle.mig_lex.specs.declared.fault.LexFault.TheVariants.{Memory};
 

@@ -2,7 +2,6 @@
 #![tactic(auto)]
 
 mod fault;
-mod mark;
 mod number;
 mod pieces;
 mod read;

@@ -1,3 +1,4 @@
+//! A text cut into declarations.
 ghost use Rattle.std.specs.Prelude.{IfOk, map};
 ghost use Rattle.mig_token.specs.Cuts.{Cuts};
 ghost use Rattle.mig_lex.specs.Law.{OneCut};
@@ -16,7 +17,8 @@ pub struct Pieces<'a> {
 
 /// Cuts a chain text at each `;`.
 pub fn cut<'a>(alloc: Global, text: &'a [u8]) -> Result<Pieces<'a>, Memory>
-    ensures { IfOk result (λ pieces. Cuts text.now (map (λ piece. piece.now) pieces.declarations.items) pieces.rest.now) }
+    ensures { IfOk result (λ pieces. Cuts text.now (map (λ piece. piece.now) pieces.declarations.items)
+        pieces.rest.now) }
 {
     let mut declarations = Vec::new(alloc);
     let mut start = 0;

@@ -1,3 +1,4 @@
+//! The tokens of a declaration.
 ghost use Rattle.std.specs.Prelude.{◌≡◌, List, IfOk, MatchOption};
 ghost use Rattle.mig_token.specs.Token.{Tok, tok_of, toks};
 ghost use Rattle.mig_token.specs.Lexical.{AreTokens};

@@ -1,9 +1,9 @@
+//! Signs: one byte, or two dots.
 ghost use Rattle.std.specs.Prelude.{◌≡◌, ◌≢◌, ◌⊎◌, ◌↔◌, IsTrue, MatchOption, slice_index};
 ghost use Rattle.mig_token.specs.Lexical.{IsLetter};
 ghost use Rattle.mig_token.specs.Token.{tok_of};
 ghost use Rattle.mig_lex.specs.Reading.{IsDigit, Reads, HasNoToken};
 
-use crate::mark::mark_of;
 use mig_token::{Mark, Token};
 
 /// Whether two dots stand at the front.
@@ -24,7 +24,7 @@ pub(crate) fn sign_at(bytes: &[u8]) -> Option<(Token<'_>, &[u8])>
         return Some((Token::Mark(Mark::Dots), &bytes[2..]));
     }
     match bytes {
-        [_, rest @ ..] => match mark_of(&bytes[..1]) {
+        [_, rest @ ..] => match Mark::of_spelling(&bytes[..1]) {
             Some(mark) => Some((Token::Mark(mark), rest)),
             None => None,
         },

@@ -1,3 +1,4 @@
+//! Strings in quotation marks.
 ghost use Rattle.std.specs.Prelude.{◌≡◌, ◌≢◌, ℕ, ◌<◌, ◌≤◌, ◌∷◌, ◌↔◌, IsTrue, MatchOption, length, slice_index, IsUtf8};
 ghost use Rattle.std.specs.List.{AllByRecursion};
 ghost use Rattle.std.specs.Str.{chars};
@@ -39,7 +40,8 @@ fn is_text(bytes: &[u8]) -> bool
 
 /// The string whose first quotation mark stands before these bytes, and the bytes behind it.
 pub(crate) fn string_at(bytes: &[u8]) -> Option<(Token<'_>, &[u8])>
-    ensures { MatchOption result (HasNoToken (34 ∷ bytes.now)) (λ read. Reads (34 ∷ bytes.now) (tok_of read.0) read.1.now) }
+    ensures { MatchOption result (HasNoToken (34 ∷ bytes.now))
+        (λ read. Reads (34 ∷ bytes.now) (tok_of read.0) read.1.now) }
 {
     let (text, rest) = bytes.split_at(text_len(bytes));
     match rest {

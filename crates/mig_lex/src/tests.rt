@@ -1,3 +1,4 @@
+//! Each kind of token, and bytes that are none.
 use crate::{cut, is_blank, tokens};
 use std::alloc::Global;
 use std::test::Fail;

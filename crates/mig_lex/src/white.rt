@@ -1,3 +1,4 @@
+//! White space.
 ghost use Rattle.std.specs.Prelude.{◌≡◌, ◌↔◌, IsTrue};
 ghost use Rattle.std.specs.List.{AllByRecursion};
 ghost use Rattle.mig_token.specs.Lexical.{IsWhite};

@@ -1,10 +1,10 @@
+//! Words: reserved ones, and names.
 ghost use Rattle.std.specs.Prelude.{◌↔◌, IsTrue, slice_index};
 ghost use Rattle.mig_token.specs.Lexical.{IsLetter, IsWordByte};
 ghost use Rattle.mig_token.specs.Token.{tok_of};
 ghost use Rattle.mig_lex.specs.Reading.{IsRun, Reads};
 
-use crate::mark::mark_of;
-use mig_token::Token;
+use mig_token::{Mark, Token};
 
 /// Whether the byte may stand in a word: a letter `a` to `z`, a digit or `_`.
 fn is_word_byte(byte: u8) -> bool
@@ -31,7 +31,7 @@ pub(crate) fn word_at(bytes: &[u8]) -> (Token<'_>, &[u8])
     ensures { Reads bytes.now (tok_of result.0) result.1.now }
 {
     let (word, rest) = bytes.split_at(word_len(bytes));
-    match mark_of(word) {
+    match Mark::of_spelling(word) {
         Some(mark) => (Token::Mark(mark), rest),
         None => (Token::Name(word), rest),
     }

@@ -7,19 +7,25 @@ use Rattle.mig_token.specs.declared.mark.Mark.{Mark}
 use Rattle.mig_token.specs.declared.mark.Mark.TheVariants as M
 use Rattle.mig_token.specs.declared.token.Token.{Token}
 use Rattle.mig_token.specs.Token.{Tok, mark, name, number, text, toks}
-use Rattle.mig_parse.specs.declared.error.ParseError.{ParseError}
-use Rattle.mig_parse.specs.declared.error.ParseError.TheVariants as errors
-use Rattle.mig_parse.specs.TemplateSyntax.{TemplateSyntax}
-use Rattle.mig_parse.specs.DeclSyntax as decl
-use Rattle.mig_parse.specs.DeclSyntax.{FixSyntax, DeclSyntax}
+use Rattle.mig_reader.specs.declared.error.ParseError.{ParseError}
+use Rattle.mig_reader.specs.declared.error.ParseError.TheVariants as errors
+use Rattle.mig_syntax.specs.TemplateSyntax.{TemplateSyntax}
+use Rattle.mig_syntax.specs.DeclSyntax as decl
+use Rattle.mig_syntax.specs.DeclSyntax.{FixSyntax, DeclSyntax}
 use Rattle.mig_parse.specs.Grammar as g
-use Rattle.mig_parse.specs.Grammar.{Declaration, optional, missing, max_levels}
-use Rattle.mig_parse.specs.Reading.{◌>>=◌, Fails, begins, behind, optional_at, name_at, text_at, number_at, template_at, fix_text_at, form_at, missing_at, version_at, schema_at, named_at, fix_at, declaration_at}
+use Rattle.mig_reader.specs.Grammar.{optional}
+use Rattle.mig_parse_template.specs.Grammar.{max_levels}
+use Rattle.mig_parse.specs.Grammar.{Declaration, missing}
+use Rattle.mig_reader.specs.Reading.{◌>>=◌, Fails, begins, behind, optional_at, name_at, text_at, number_at}
+use Rattle.mig_parse_template.specs.Reading.{template_at}
+use Rattle.mig_parse.specs.Reading.{fix_text_at, form_at, missing_at, version_at, schema_at, named_at, fix_at, declaration_at}
 use Rattle.mig_parse.specs.Law.{HasOneDeclaration}
-use Rattle.mig_parse.proofs.Fronts.{here, bind_some, chosen, some_is, Front, moved, Sound, begins_is, behind_is, name_is, text_is, number_is, optional_is}
-use Rattle.mig_parse.proofs.TemplateRead.{template_read}
-use Rattle.mig_parse.proofs.TemplateSound.{template_sound}
+use Rattle.mig_reader.proofs.Fronts.{here, bind_some, Front, moved, Sound, begins_is, behind_is, name_is, text_is, number_is, optional_is}
+use Rattle.mig_parse_template.proofs.TemplateRead.{template_read}
+use Rattle.mig_parse_template.proofs.TemplateSound.{template_sound}
 use Rattle.mig_parse.proofs.FixLaws.{fix_text_read, fix_text_sound}
+use Rattle.std.proofs.lemmas.Option.{same_Some}
+use Rattle.mig_model.proofs.Options.{chosen}
 
 -- ---- what is a declaration is read
 
@@ -74,13 +80,13 @@ form_sound ts d rest e =
     let f = bind_some (form_at ts) _ (d, rest) e in
     elim (chosen (begins M.Nbt ts) _ _ (Some f.0) f.1) [
       | inl p ↦
-          let is : decl.form f.0.0 ≡ decl.form F.Nbt = ap (λ (x : Form × List Tok). decl.form x.0) (sym (some_is (F.Nbt, drop 1 ts) f.0 p.1)) in
+          let is : decl.form f.0.0 ≡ decl.form F.Nbt = ap (λ (x : Form × List Tok). decl.form x.0) (sym (same_Some (F.Nbt, drop 1 ts) f.0 p.1)) in
           let all : mark M.Form ∷ ts ≡ mark M.Form ∷ mark M.Nbt ∷ drop 1 ts = ap (λ (l : List Tok). mark M.Form ∷ l) (begins_is M.Nbt ts p.0) in
-          moved (λ x a. Declaration a x) (decl.form F.Nbt) d (mark M.Form ∷ mark M.Nbt ∷ []) (mark M.Form ∷ ts) (drop 1 ts) rest all g.form_nbt (ap (λ (x : Form × List Tok). Some (decl.form x.0, x.1)) (some_is (F.Nbt, drop 1 ts) f.0 p.1) ∙ f.2)
+          moved (λ x a. Declaration a x) (decl.form F.Nbt) d (mark M.Form ∷ mark M.Nbt ∷ []) (mark M.Form ∷ ts) (drop 1 ts) rest all g.form_nbt (ap (λ (x : Form × List Tok). Some (decl.form x.0, x.1)) (same_Some (F.Nbt, drop 1 ts) f.0 p.1) ∙ f.2)
       | inr p ↦
           let b = bind_some (behind M.Json ts) _ f.0 p.1 in
           let all : mark M.Form ∷ ts ≡ mark M.Form ∷ mark M.Json ∷ b.0 = ap (λ (l : List Tok). mark M.Form ∷ l) (behind_is M.Json ts b.0 b.1) in
-          moved (λ x a. Declaration a x) (decl.form F.Json) d (mark M.Form ∷ mark M.Json ∷ []) (mark M.Form ∷ ts) b.0 rest all g.form_json (ap (λ (x : Form × List Tok). Some (decl.form x.0, x.1)) (some_is (F.Json, b.0) f.0 b.2) ∙ f.2)
+          moved (λ x a. Declaration a x) (decl.form F.Json) d (mark M.Form ∷ mark M.Json ∷ []) (mark M.Form ∷ ts) b.0 rest all g.form_json (ap (λ (x : Form × List Tok). Some (decl.form x.0, x.1)) (same_Some (F.Json, b.0) f.0 b.2) ∙ f.2)
     ]
 
 missing_is : (ts : List Tok) (n : Option ℤ) (rest : List Tok) → missing_at ts ≡ here n rest → ts ≡ missing n ++ rest
@@ -89,8 +95,8 @@ missing_is ts n rest e = elim (chosen (begins M.Missing ts) _ _ (here n rest) e)
   | inl p ↦
       let z = bind_some (number_at (drop 1 ts)) _ (n, rest) p.1 in
       let all : ts ≡ mark M.Missing ∷ number z.0.0 ∷ z.0.1 = begins_is M.Missing ts p.0 ∙ ap (λ (l : List Tok). mark M.Missing ∷ l) (number_is (drop 1 ts) z.0.0 z.0.1 z.1) in
-      all ∙ ap (λ (x : Option ℤ × List Tok). missing x.0 ++ x.1) (some_is (Some z.0.0, z.0.1) (n, rest) z.2)
-  | inr p ↦ ap (λ (x : Option ℤ × List Tok). missing x.0 ++ x.1) (some_is (None, ts) (n, rest) p.1)
+      all ∙ ap (λ (x : Option ℤ × List Tok). missing x.0 ++ x.1) (same_Some (Some z.0.0, z.0.1) (n, rest) z.2)
+  | inr p ↦ ap (λ (x : Option ℤ × List Tok). missing x.0 ++ x.1) (same_Some (None, ts) (n, rest) p.1)
 ]
 
 version_sound : (ts : List Tok) (d : DeclSyntax) (rest : List Tok) → version_at ts ≡ here d rest → Behind M.Version d ts rest
@@ -166,7 +172,7 @@ declaration_sound ts d rest e = elim (chosen (begins M.Form ts) _ _ (here d rest
 -- ---- all tokens
 
 pub one_declaration : HasOneDeclaration
-one_declaration a d e p q = ap (λ (x : DeclSyntax × List Tok). x.0) (some_is (d, []) (e, []) (sym (whole p) ∙ whole q))
+one_declaration a d e p q = ap (λ (x : DeclSyntax × List Tok). x.0) (same_Some (d, []) (e, []) (sym (whole p) ∙ whole q))
 
 pub not_wrong : (e : ParseError) (ts : List Tok) (d : DeclSyntax) → e ≡ errors.Wrong → Fails e (declaration_at ts) → Declaration ts d → ⊥
 not_wrong errors.Memory ts d w f p = absurd cc
@@ -174,7 +180,7 @@ not_wrong errors.Wrong ts d w f p = let both : None ≡ here d [] = sym f ∙ wh
 
 pub same_declaration : (ts rest : List Tok) (c d : DeclSyntax) → declaration_at ts ≡ here c rest → Declaration ts d → (d ≡ c) × ([] ≡ rest)
 same_declaration ts rest c d e p =
-    let q = some_is (d, []) (c, rest) (sym (whole p) ∙ e) in
+    let q = same_Some (d, []) (c, rest) (sym (whole p) ∙ e) in
     (ap (λ (x : DeclSyntax × List Tok). x.0) q, ap (λ (x : DeclSyntax × List Tok). x.1) q)
 
 pub all_read : (ts rest : List Tok) (d : DeclSyntax) → declaration_at ts ≡ here d rest → rest ≡ [] → Declaration ts d

@@ -2,23 +2,33 @@
 use Rattle.std.proofs.Common.{◌≡◌, inl, inr, ℕ, zero, suc, ◌+◌, ◌-◌, ◌≤◌, ◌<◌, List, [], ◌∷◌, ◌++◌, length, true, false, Some, None, refl, sym, ap, ◌∙◌, append_assoc, arith}
 use Rattle.mig_token.specs.declared.mark.Mark.TheVariants as M
 use Rattle.mig_token.specs.Token.{Tok, mark, name, text}
-use Rattle.mig_parse.specs.declared.error.ParseError.{ParseError}
-use Rattle.mig_parse.specs.declared.error.ParseError.TheVariants as errors
-use Rattle.mig_parse.specs.TemplateSyntax.{TemplateSyntax}
-use Rattle.mig_parse.specs.RuleSyntax.{LeafSyntax, FunctionSyntax, RuleSyntax}
-use Rattle.mig_parse.specs.DeclSyntax as decl
-use Rattle.mig_parse.specs.DeclSyntax.{StepSyntax, FixSyntax}
+use Rattle.mig_reader.specs.declared.error.ParseError.{ParseError}
+use Rattle.mig_reader.specs.declared.error.ParseError.TheVariants as errors
+use Rattle.mig_syntax.specs.TemplateSyntax.{TemplateSyntax}
+use Rattle.mig_syntax.specs.RuleSyntax.{LeafSyntax, FunctionSyntax, RuleSyntax}
+use Rattle.mig_syntax.specs.DeclSyntax as decl
+use Rattle.mig_syntax.specs.DeclSyntax.{StepSyntax, FixSyntax}
+use Rattle.mig_parse_function.specs.Grammar as function_grammar
+use Rattle.mig_parse_rule.specs.Grammar as rule_grammar
 use Rattle.mig_parse.specs.Grammar as g
-use Rattle.mig_parse.specs.Grammar.{Step, Steps, Function, Rule, Fix, max_levels}
-use Rattle.mig_parse.specs.Reading.{Fails, Read, begins, behind, name_at, text_at, word, after_items, template_at, leaf_at, rule_at, field_step_at, case_step_at, step_at, steps_at, new_type_at, drop_type_at, deep_at, rule_fix_at, fix_text_at}
-use Rattle.mig_parse.proofs.Fronts.{here, bind_some, chosen, moved, Sound, behind_is, name_is, text_is, word_sound, done_sound}
-use Rattle.mig_parse.proofs.Lists.{regroup}
-use Rattle.mig_parse.proofs.TemplateRead.{template_read}
-use Rattle.mig_parse.proofs.TemplateSound.{template_sound}
-use Rattle.mig_parse.proofs.LeafRead.{leaf_read}
-use Rattle.mig_parse.proofs.LeafSound.{leaf_sound}
-use Rattle.mig_parse.proofs.RuleRead.{rule_read}
-use Rattle.mig_parse.proofs.RuleSound.{rule_sound}
+use Rattle.mig_parse_template.specs.Grammar.{max_levels}
+use Rattle.mig_parse_function.specs.Grammar.{Function}
+use Rattle.mig_parse_rule.specs.Grammar.{Rule}
+use Rattle.mig_parse.specs.Grammar.{Step, Steps, Fix}
+use Rattle.mig_reader.specs.Reading.{Fails, Read, begins, behind, name_at, text_at, word, after_items}
+use Rattle.mig_parse_template.specs.Reading.{template_at}
+use Rattle.mig_parse_leaf.specs.Reading.{leaf_at}
+use Rattle.mig_parse_rule.specs.Reading.{rule_at}
+use Rattle.mig_parse.specs.Reading.{field_step_at, case_step_at, step_at, steps_at, new_type_at, drop_type_at, deep_at, rule_fix_at, fix_text_at}
+use Rattle.mig_reader.proofs.Fronts.{here, bind_some, moved, Sound, behind_is, name_is, text_is, word_sound, done_sound}
+use Rattle.mig_reader.proofs.Lists.{regroup}
+use Rattle.mig_parse_template.proofs.TemplateRead.{template_read}
+use Rattle.mig_parse_template.proofs.TemplateSound.{template_sound}
+use Rattle.mig_parse_leaf.proofs.LeafRead.{leaf_read}
+use Rattle.mig_parse_leaf.proofs.LeafSound.{leaf_sound}
+use Rattle.mig_parse_rule.proofs.RuleRead.{rule_read}
+use Rattle.mig_parse_rule.proofs.RuleSound.{rule_sound}
+use Rattle.mig_model.proofs.Options.{chosen}
 
 -- ---- what is in the grammar is read
 step_read : {a : List Tok} {s : StepSyntax} → Step a s → (rest : List Tok) → step_at (a ++ rest) ≡ here s rest
@@ -81,11 +91,11 @@ abbrev NoFixWord : List Tok → Type 0
 NoFixWord ts = (begins M.NewType ts ≡ false) × (begins M.DropType ts ≡ false) × (begins M.Deep ts ≡ false)
 
 no_fix_word_function : {a : List Tok} {f : FunctionSyntax} → Function a f → (rest : List Tok) → NoFixWord (a ++ rest)
-no_fix_word_function (g.rename x y) rest = (refl, refl, refl)
+no_fix_word_function (function_grammar.rename x y) rest = (refl, refl, refl)
 no_fix_word_function _ rest = (refl, refl, refl)
 
 no_fix_word : {d : ℕ} {a : List Tok} {r : RuleSyntax} → Rule d a r → (rest : List Tok) → NoFixWord (a ++ rest)
-no_fix_word (g.a_function d a f p) rest = no_fix_word_function p rest
+no_fix_word (rule_grammar.a_function d a f p) rest = no_fix_word_function p rest
 no_fix_word _ rest = (refl, refl, refl)
 
 rule_fix_read : (ts rest : List Tok) (r : RuleSyntax) → NoFixWord ts → rule_at max_levels ts ≡ here r rest → fix_text_at ts ≡ here (decl.rule r) rest

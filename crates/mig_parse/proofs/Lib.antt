@@ -1,13 +1,2 @@
-pub mod Fronts
-pub mod Lists
-pub mod Loops
-pub mod TemplateRead
-pub mod TemplateSound
-pub mod LeafRead
-pub mod LeafSound
-pub mod FunctionRead
-pub mod FunctionSound
-pub mod RuleRead
-pub mod RuleSound
 pub mod FixLaws
 pub mod DeclarationLaws

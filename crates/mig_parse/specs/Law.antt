@@ -1,7 +1,7 @@
 -- The grammar gives tokens at most one syntax.
 use Rattle.std.specs.Prelude.{◌≡◌, List}
 use Rattle.mig_token.specs.Token.{Tok}
-use Rattle.mig_parse.specs.DeclSyntax.{DeclSyntax}
+use Rattle.mig_syntax.specs.DeclSyntax.{DeclSyntax}
 use Rattle.mig_parse.specs.Grammar.{Declaration}
 
 abbrev pub HasOneDeclaration : Type 0

@@ -1,13 +1,3 @@
-pub mod TemplateSyntax
-pub mod TemplateCode
-pub mod TemplateView
-pub mod TemplateFalls
-pub mod RuleSyntax
-pub mod RuleCode
-pub mod RuleView
-pub mod RuleFalls
-pub mod DeclSyntax
-pub mod DeclView
 pub mod Grammar
 pub mod Reading
 pub mod Law

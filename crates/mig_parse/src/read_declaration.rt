@@ -1,21 +1,24 @@
+//! The reader of declarations.
 ghost use Rattle.std.specs.Prelude.{◌≡◌, Err, IfOk};
 ghost use Rattle.mig_token.specs.Token.{toks};
-ghost use Rattle.mig_parse.specs.declared.error.ParseError.TheVariants as errors;
-ghost use Rattle.mig_parse.specs.DeclSyntax.{DeclSyntax};
-ghost use Rattle.mig_parse.specs.DeclView.{decl_of};
+ghost use Rattle.mig_reader.specs.declared.error.ParseError.TheVariants as errors;
+ghost use Rattle.mig_syntax.specs.DeclSyntax.{DeclSyntax};
+ghost use Rattle.mig_syntax.specs.DeclView.{decl_of};
 ghost use Rattle.mig_parse.specs.Grammar.{Declaration};
-ghost use Rattle.mig_parse.specs.Reading.{Gives, form_at, missing_at, version_at, schema_at, named_at, fix_at, declaration_at};
+ghost use Rattle.mig_reader.specs.Reading.{Gives};
+ghost use Rattle.mig_parse.specs.Reading.{form_at, missing_at, version_at, schema_at, named_at, fix_at, declaration_at};
 
-use crate::MAX_LEVELS;
-use crate::decl::Decl;
-use crate::error::ParseError;
 use crate::read_fix::fix_text_at;
-use crate::read_template::template_at;
-use crate::tokens::{begins, behind, behind_first, name_at, number_at, optional_at, text_at};
 use mig_model::Form;
+use mig_parse_template::template;
+use mig_reader::{
+    ParseError, begins, behind, behind_first, name_at, number_at, optional_at, text_at,
+};
+use mig_syntax::Decl;
 use mig_token::{Mark, Token};
 use std::alloc::Global;
 
+/// The form, behind `form`.
 #[tactic(auto, unfolding(crate::specs::Reading::form_at))]
 fn form_at<'a, 't>(tokens: &'a [Token<'t>]) -> Result<(Form, &'a [Token<'t>]), ParseError>
     ensures { Gives (λ x. (x.0, toks x.1.now)) result (form_at (toks tokens.now)) }
@@ -41,6 +44,7 @@ fn missing_at<'a, 't>(
     Ok((None, tokens))
 }
 
+/// The name of the field of the version, and the number after `missing`, behind `version`.
 #[tactic(auto, unfolding(crate::specs::Reading::version_at))]
 fn version_at<'a, 't>(
     alloc: Global,
@@ -53,6 +57,7 @@ fn version_at<'a, 't>(
     Ok((Decl::Version(name, missing), rest))
 }
 
+/// The version of a schema, and whether `follows` stands, behind `schema`.
 #[tactic(auto, unfolding(crate::specs::Reading::schema_at))]
 fn schema_at<'a, 't>(tokens: &'a [Token<'t>]) -> Result<(Decl, &'a [Token<'t>]), ParseError>
     ensures { Gives (λ x. (decl_of x.0, toks x.1.now)) result (schema_at (toks tokens.now)) }
@@ -62,6 +67,7 @@ fn schema_at<'a, 't>(tokens: &'a [Token<'t>]) -> Result<(Decl, &'a [Token<'t>]),
     Ok((Decl::Schema(version, follows), rest))
 }
 
+/// The name and the template, behind `type`.
 #[tactic(auto, unfolding(crate::specs::Reading::named_at))]
 fn named_at<'a, 't>(
     alloc: Global,
@@ -71,10 +77,11 @@ fn named_at<'a, 't>(
 {
     let (name, rest) = name_at(alloc, tokens)?;
     let rest = behind(Mark::Equals, rest)?;
-    let (template, rest) = template_at(alloc, MAX_LEVELS, rest)?;
-    Ok((Decl::Named(name, template), rest))
+    let (named, rest) = template(alloc, rest)?;
+    Ok((Decl::Named(name, named), rest))
 }
 
+/// The number of a fix, and what it does, behind `fix`.
 #[tactic(auto, unfolding(crate::specs::Reading::fix_at))]
 fn fix_at<'a, 't>(
     alloc: Global,

@@ -1,15 +1,15 @@
+//! What a `fix` does, and the steps of a path.
 ghost use Rattle.std.specs.Prelude.{◌≡◌, length, map};
 ghost use Rattle.mig_token.specs.Token.{toks};
-ghost use Rattle.mig_parse.specs.DeclView.{step_of, fix_of};
-ghost use Rattle.mig_parse.specs.Reading.{Gives, step_at, steps_at, new_type_at, deep_at, fix_text_at};
+ghost use Rattle.mig_syntax.specs.DeclView.{step_of, fix_of};
+ghost use Rattle.mig_reader.specs.Reading.{Gives};
+ghost use Rattle.mig_parse.specs.Reading.{step_at, steps_at, new_type_at, deep_at, fix_text_at};
 
-use crate::MAX_LEVELS;
-use crate::decl::{FixText, StepText};
-use crate::error::ParseError;
-use crate::read_leaf::leaf_at;
-use crate::read_rule::rule_at;
-use crate::read_template::template_at;
-use crate::tokens::{begins, behind, behind_first, name_at, text_at};
+use mig_parse_leaf::leaf_at;
+use mig_parse_rule::rule;
+use mig_parse_template::template;
+use mig_reader::{ParseError, begins, behind, behind_first, name_at, text_at};
+use mig_syntax::{FixText, StepText};
 use mig_token::{Mark, Token};
 use std::alloc::Global;
 
@@ -50,7 +50,8 @@ fn steps_at<'a, 't>(
     alloc: Global,
     tokens: &'a [Token<'t>],
 ) -> Result<(Vec<StepText>, &'a [Token<'t>]), ParseError>
-    ensures { Gives (λ x. (map step_of x.0.items, toks x.1.now)) result (steps_at (length tokens.now) (toks tokens.now)) }
+    ensures { Gives (λ x. (map step_of x.0.items, toks x.1.now)) result
+        (steps_at (length tokens.now) (toks tokens.now)) }
 {
     let mut steps = Vec::new(alloc);
     let mut rest = tokens;
@@ -75,8 +76,8 @@ fn new_type_at<'a, 't>(
 {
     let (name, rest) = name_at(alloc, tokens)?;
     let rest = behind(Mark::Equals, rest)?;
-    let (template, rest) = template_at(alloc, MAX_LEVELS, rest)?;
-    Ok((FixText::NewType(name, template), rest))
+    let (named, rest) = template(alloc, rest)?;
+    Ok((FixText::NewType(name, named), rest))
 }
 
 /// The steps and the function, behind `deep`.
@@ -111,6 +112,6 @@ pub(crate) fn fix_text_at<'a, 't>(
     if begins(Mark::Deep, tokens) {
         return deep_at(alloc, behind_first(tokens));
     }
-    let (rule, rest) = rule_at(alloc, MAX_LEVELS, tokens)?;
-    Ok((FixText::Rule(rule), rest))
+    let (read, rest) = rule(alloc, tokens)?;
+    Ok((FixText::Rule(read), rest))
 }

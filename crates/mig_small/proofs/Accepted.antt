@@ -11,9 +11,10 @@ use Rattle.mig_small.specs.Chain.{Chain, ChainStep, schema, fix, IsAccepted}
 use Rattle.mig_small.specs.Small.{Small, LeafField, leaf_fields, open_record, chain_of}
 use Rattle.mig_small.specs.Pieces.{SmallEdits, family_of}
 use Rattle.mig_small.specs.Lifted.{lifted}
-use Rattle.mig_small.specs.Nine.{edits_in}
-use Rattle.mig_small.proofs.Formed.{same_itself, named_family, formed_root}
+use Rattle.mig_small.specs.ChainPieces.{edits_in}
+use Rattle.mig_small.proofs.Formed.{named_family, formed_root}
 use Rattle.mig_small.proofs.Lifts.{rule_in, target_is}
+use Rattle.mig_model.proofs.SameNames.{same_name_itself}
 
 module _ (form : Form) (version root : List ℕ) (e : SmallEdits) (before after : List LeafField) (lifts : lifted e before ≡ Some after) where
   lifted_target : target (rule_in e) root (open_record before) ≡ Some (open_record after)
@@ -104,8 +105,8 @@ shaped form version missing first second number named root again root_again e be
     let again_is : again ≡ named = sym two_is ∙ same.root ∙ root_is in
     let two : IsFormed (family_of form version named after) = subst (λ r. IsFormed (family_of form version r after)) again_is (subst (λ r. IsFormed (named_family form version again r after)) two_is matches.2) in
     let o = target (rule_in e) named (open_record before) in
-    let left : find_type named ((again, open_record after) ∷ []) ≡ Some (open_record after) = chosen_is (same_name named again) (open_record after) (ap (same_name named) again_is ∙ same_itself named) in
-    let right : find_type named ((named, unwrap_or o (open_record before)) ∷ []) ≡ Some (unwrap_or o (open_record before)) = chosen_is (same_name named named) (unwrap_or o (open_record before)) (same_itself named) in
+    let left : find_type named ((again, open_record after) ∷ []) ≡ Some (open_record after) = chosen_is (same_name named again) (open_record after) (ap (same_name named) again_is ∙ same_name_itself named) in
+    let right : find_type named ((named, unwrap_or o (open_record before)) ∷ []) ≡ Some (unwrap_or o (open_record before)) = chosen_is (same_name named named) (unwrap_or o (open_record before)) (same_name_itself named) in
     let is : o ≡ Some (open_record after) = from_fits o (open_record before) (open_record after) a.4.1 (sym left ∙ same.types named ∙ right) in
     let number_is : second ≡ number = some_is second number a.4.0 in
     record {

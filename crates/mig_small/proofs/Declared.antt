@@ -2,11 +2,11 @@
 use Rattle.std.proofs.Common.{◌≡◌, ◌≤◌, ℕ, ℤ, pos, List, [], ◌∷◌, true, false, Option, refl, sym, ap, subst, ◌∙◌}
 use Rattle.mig_model.specs.declared.form.Form.{Form}
 use Rattle.mig_model.specs.Version.{last_version}
-use Rattle.mig_parse.specs.DeclSyntax as decl
-use Rattle.mig_parse.specs.DeclSyntax.{DeclSyntax}
-use Rattle.mig_parse.specs.TemplateSyntax.{FieldsSyntax, no_field, field, FieldSyntax, fields_of, record_of, no_choice}
-use Rattle.mig_parse.specs.RuleSyntax as rule
-use Rattle.mig_parse.specs.RuleSyntax.{RuleSyntax, RulesSyntax, rules_of}
+use Rattle.mig_syntax.specs.DeclSyntax as decl
+use Rattle.mig_syntax.specs.DeclSyntax.{DeclSyntax}
+use Rattle.mig_syntax.specs.TemplateSyntax.{FieldsSyntax, no_field, field, FieldSyntax, fields_of, record_of, no_choice}
+use Rattle.mig_syntax.specs.RuleSyntax as rule
+use Rattle.mig_syntax.specs.RuleSyntax.{RuleSyntax, RulesSyntax, rules_of}
 use Rattle.mig_small.specs.Small.{LeafField}
 use Rattle.mig_small.specs.SmallText.{IsMissing, MakeRecord}
 use Rattle.mig_small.specs.Pieces.{IsDeclared, IsVersion, IsHead, IsRecord, SmallEdits, AreEdits, IsFix}

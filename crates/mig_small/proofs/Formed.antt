@@ -23,6 +23,9 @@ use Rattle.mig_model.specs.Template.{is_nbt}
 use Rattle.mig_small.specs.Small.{LeafField, leaf_fields, open_record}
 use Rattle.mig_small.specs.Pieces.{FitsForm, family_of}
 use Rattle.mig_small.specs.Lifted.{has_field, leaf_kind}
+use Rattle.mig_model.proofs.Bools.{split_or}
+use Rattle.mig_model.proofs.SameNames.{same_name_is, same_name_itself}
+use Rattle.std.proofs.lemmas.Bool.{not-false}
 
 abbrev pub slot : LeafField → Field
 slot g = (g.0, (Must, leaf g.1))
@@ -64,24 +67,16 @@ none_in : (p : Template → Bool) → ((k : Kind) → p (leaf k) ≡ false) → 
 none_in p h [] = refl
 none_in p h (g ∷ gs) = rw (h g.1) (none_in p h gs)
 
-both : (a b : Bool) → (a || b) ≡ false → (a ≡ false) × (b ≡ false)
-both false b e = (refl, e)
-both true b e = absurd cc
-
 -- the wrong kinds
 no_wrong : (form : Form) (gs : List LeafField) → AllByRecursion (FitsForm form) gs → any_in_fields (is_wrong_leaf form) (leaf_fields gs) ≡ false
 no_wrong form [] h = refl
 no_wrong form (g ∷ gs) h = let e : not (is_leaf g.1 && is_of_form form g.1) ≡ false = ap not h.0 in rw e (no_wrong form gs h.1)
 
-right : (b : Bool) → not b ≡ false → b ≡ true
-right true e = refl
-right false e = absurd cc
-
 all_right : (form : Form) (gs : List LeafField) → any_in_fields (is_wrong_leaf form) (leaf_fields gs) ≡ false → AllByRecursion (FitsForm form) gs
 all_right form [] h = tt
 all_right form (g ∷ gs) h =
-    let b = both (not (is_leaf g.1 && is_of_form form g.1)) (any_in_fields (is_wrong_leaf form) (leaf_fields gs)) h in
-    (right (is_leaf g.1 && is_of_form form g.1) b.0, all_right form gs b.1)
+    let b = split_or (not (is_leaf g.1 && is_of_form form g.1)) (any_in_fields (is_wrong_leaf form) (leaf_fields gs)) h in
+    (not-false (is_leaf g.1 && is_of_form form g.1) b.0, all_right form gs b.1)
 
 -- a formed family has none of the flaws
 abbrev AmongFlaws : Flaw → List Flaw → Type 0
@@ -110,16 +105,10 @@ equal_itself x = by (by_bytes x x) refl
     by Equal h = h
     by Greater h = let e : Greater ≡ Less = sym h ∙ nat_list_cmp_total.antisymm x x ∙ ap ordering_reverse h in absurd cc
 
-pub same_itself : (x : List ℕ) → same_name x x ≡ true
-same_itself x = ap is_eq (equal_itself x)
-
 only_equal : (r : Ordering) → is_eq r ≡ true → r ≡ Equal
 only_equal Equal h = refl
 only_equal Less h = absurd cc
 only_equal Greater h = absurd cc
-
-pub only_itself : (x y : List ℕ) → same_name x y ≡ true → x ≡ y
-only_itself x y h = exact_bytes x y (only_equal (by_bytes x y) h)
 
 abbrev pub named_family : Form → List ℕ → List ℕ → List ℕ → List LeafField → Family
 named_family form version named root gs = record { form = form; version = version ∷ []; types = (named, open_record gs) ∷ []; root = root }
@@ -133,15 +122,15 @@ module _ (form : Form) (version named root : List ℕ) (gs : List LeafField) whe
   pub formed_root : IsFormed (named_family form version named root gs) → root ≡ named
   formed_root h =
       let e = no_flaw flaws family.unknown_name (named_family form version named root gs) (inr (inr (inr (inr (inl refl))))) h in
-      let f = (both _ (not (is_some (if same_name root named then Some (open_record gs) else None))) e).1 in
-      only_itself root named (chosen (same_name root named) (open_record gs) (right (is_some (if same_name root named then Some (open_record gs) else None)) f))
+      let f = (split_or _ (not (is_some (if same_name root named then Some (open_record gs) else None))) e).1 in
+      same_name_is root named (chosen (same_name root named) (open_record gs) (not-false (is_some (if same_name root named then Some (open_record gs) else None)) f))
 
 module _ (form : Form) (version root : List ℕ) (gs : List LeafField) where
   abbrev chosen_body : Bool → Template
   chosen_body b = unwrap_or (if b then Some (open_record gs) else None) any
 
   root_body : body (family_of form version root gs) root ≡ open_record gs
-  root_body = ap chosen_body (same_itself root)
+  root_body = ap chosen_body (same_name_itself root)
 
   used_is : has_flaw family.version_name_used (family_of form version root gs) ≡ (has_field version gs || false)
   used_is = ap (uses_name version) root_body ∙ ap (λ b. b || false) (field_is version gs)
@@ -159,7 +148,7 @@ module _ (form : Form) (version root : List ℕ) (gs : List LeafField) where
       let overlap = none_in (sides_overlap form) (λ k. refl) gs in
       let mixed = none_in (is_mixed (family_of form version root gs)) (λ k. refl) gs in
       none_first flaws (family_of form version root gs)
-      (refl, (refl, (rw deep refl, (rw wrong refl, (rw (unknown, same_itself root) refl, (rw side refl, (rw overlap refl, (by form mixed, (ap (λ V. not (is_record V)) root_body, (ap (λ V. not (is_record V)) root_body, (used_is ∙ ap (λ b. b || false) free, tt)))))))))))
+      (refl, (refl, (rw deep refl, (rw wrong refl, (rw (unknown, same_name_itself root) refl, (rw side refl, (rw overlap refl, (by form mixed, (ap (λ V. not (is_record V)) root_body, (ap (λ V. not (is_record V)) root_body, (used_is ∙ ap (λ b. b || false) free, tt)))))))))))
     where
       by : (f : Form) → any_in_fields (is_mixed (family_of form version root gs)) (leaf_fields gs) ≡ false → (is_nbt f && any_type (any_inside (is_mixed (family_of form version root gs))) (family_of form version root gs)) ≡ false
       by F.Nbt h = rw h refl

@@ -6,10 +6,10 @@ use Rattle.std.specs.List.Sorted.{IsSortedByKey}
 use Rattle.std.proofs.lemmas.List.Sorted.{IsPermutation-map, IsPermutation-sym, IsPermutation-trans}
 use Rattle.mig_model.specs.declared.form.Form.{Form}
 use Rattle.mig_model.specs.Names.{by_bytes}
-use Rattle.mig_parse.specs.TemplateSyntax as template
-use Rattle.mig_parse.specs.TemplateSyntax.{FieldSyntax}
-use Rattle.mig_parse.specs.TemplateView as syntax
-use Rattle.mig_parse.specs.declared.template.FieldText.{FieldText}
+use Rattle.mig_syntax.specs.TemplateSyntax as template
+use Rattle.mig_syntax.specs.TemplateSyntax.{FieldSyntax}
+use Rattle.mig_syntax.specs.TemplateView as syntax
+use Rattle.mig_syntax.specs.declared.template.FieldText.{FieldText}
 use Rattle.mig_small.specs.Small.{LeafField, Ascend}
 use Rattle.mig_small.specs.SmallText.{AreLeaves, MakeRecord}
 use Rattle.mig_small.specs.Pieces.{IsLeafField, FitsForm}
@@ -17,7 +17,7 @@ use Rattle.mig_small.specs.View.{field_of}
 use Rattle.mig_small.specs.declared.field.SmallField.{SmallField}
 use Rattle.mig_small.proofs.Found.{One}
 use Rattle.mig_small.proofs.Sorted.{named_if_any}
-use Rattle.mig_small.proofs.Ascending.{one_order}
+use Rattle.mig_model.proofs.OneOrder.{one_order}
 
 module _ (form : Form) where
   pub one_leaf : (f : FieldSyntax) (a b : LeafField) → IsLeafField form f a → IsLeafField form f b → a ≡ b

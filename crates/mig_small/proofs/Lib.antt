@@ -1,7 +1,6 @@
 pub mod Found
 pub mod Declared
 pub mod Sorted
-pub mod Ascending
 pub mod Leaves
 pub mod TwoRules
 pub mod Formed

@@ -21,6 +21,7 @@ use Rattle.mig_small.specs.Small.{LeafField, leaf_fields, open_record}
 use Rattle.mig_small.specs.Pieces.{SmallEdits}
 use Rattle.mig_small.specs.Lifted.{leaf_kind, has_field, without_leaf, with_leaf, renamed, extended, lifted}
 use Rattle.mig_small.proofs.Formed.{slot, must, slots, of_slots, lookup_slots, field_is}
+use Rattle.std.proofs.Math.Bool.{and-true}
 
 removed_if : (b : Bool) (g : LeafField) (gs hs : List LeafField) → (if b then map slot gs else slot g ∷ map slot hs) ≡ map slot (if b then gs else g ∷ hs)
 removed_if true g gs hs = refl
@@ -50,12 +51,8 @@ with_is x k gs = ap (λ (l : List Field). fields_of (insert_entry by_bytes l x (
 find_is : (x : List ℕ) (gs : List LeafField) → find_field x (leaf_fields gs) ≡ option_map must (leaf_kind x gs)
 find_is x gs = ap (λ (l : List Field). lookup (is_at (by_bytes x)) l) (slots gs) ∙ lookup_slots (is_at (by_bytes x)) gs
 
-and_true : (b : Bool) → (b && true) ≡ b
-and_true true = refl
-and_true false = refl
-
 free_is : (x : List ℕ) (gs : List LeafField) → is_free x (leaf_fields gs) no_choice ≡ not (has_field x gs)
-free_is x gs = and_true (not _) ∙ ap not (field_is x gs)
+free_is x gs = and-true (not _) ∙ ap not (field_is x gs)
 
 if_mapped : (b : Bool) (hs : List LeafField) → if_so b (leaf_fields hs) ≡ option_map leaf_fields (if_so b hs)
 if_mapped true hs = refl

@@ -2,10 +2,10 @@
 use Rattle.std.proofs.Common.{◌≡◌, ℕ, List, sym, ap, subst, ◌∙◌}
 use Rattle.mig_model.specs.declared.form.Form.{Form}
 use Rattle.mig_model.specs.Family.{IsFormed}
-use Rattle.mig_parse.specs.DeclSyntax as decl
+use Rattle.mig_syntax.specs.DeclSyntax as decl
 use Rattle.mig_small.specs.Small.{LeafField}
 use Rattle.mig_small.specs.Pieces.{IsDeclared, IsHead, IsRecord, SmallSchema, family_of}
-use Rattle.mig_small.specs.Nine.{SchemaPieces, AreSchema}
+use Rattle.mig_small.specs.ChainPieces.{SchemaPieces, AreSchema}
 use Rattle.mig_small.proofs.Found.{One}
 
 abbrev pub IsRoot : List ℕ → List ℕ → Type 0

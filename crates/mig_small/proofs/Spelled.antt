@@ -8,12 +8,18 @@ use Rattle.mig_model.specs.Const as model
 use Rattle.mig_token.specs.Token.{Tok, text}
 use Rattle.mig_token.specs.Lexical as lexical
 use Rattle.mig_token.specs.Lexical.{IsStringChar, IsToken, AreTokens}
-use Rattle.mig_parse.specs.RuleSyntax as rule
-use Rattle.mig_parse.specs.RuleSyntax.{ConstSyntax, FillSyntax, FunctionSyntax, RuleSyntax, RulesSyntax, rules_of}
-use Rattle.mig_parse.specs.DeclSyntax as decl
-use Rattle.mig_parse.specs.DeclSyntax.{FixSyntax, DeclSyntax}
+use Rattle.mig_syntax.specs.RuleSyntax as rule
+use Rattle.mig_syntax.specs.RuleSyntax.{ConstSyntax, FillSyntax, FunctionSyntax, RuleSyntax, RulesSyntax, rules_of}
+use Rattle.mig_syntax.specs.DeclSyntax as decl
+use Rattle.mig_syntax.specs.DeclSyntax.{FixSyntax, DeclSyntax}
+use Rattle.mig_parse_leaf.specs.Grammar as leaf_grammar
+use Rattle.mig_parse_function.specs.Grammar as function_grammar
+use Rattle.mig_parse_rule.specs.Grammar as rule_grammar
 use Rattle.mig_parse.specs.Grammar as g
-use Rattle.mig_parse.specs.Grammar.{Const, Fill, Function, Rule, Rules, Fix, Declaration}
+use Rattle.mig_parse_leaf.specs.Grammar.{Const}
+use Rattle.mig_parse_function.specs.Grammar.{Fill, Function}
+use Rattle.mig_parse_rule.specs.Grammar.{Rule, Rules}
+use Rattle.mig_parse.specs.Grammar.{Fix, Declaration}
 use Rattle.mig_small.specs.Small.{IsSpelled, IsSpelledConst}
 use Rattle.mig_small.specs.SmallText.{Means}
 use Rattle.mig_small.specs.Pieces.{IsDeclared}
@@ -80,33 +86,33 @@ SpelledDeclaration (decl.fix z f) = SpelledFix f
 SpelledDeclaration d = Unit {0}
 
 spelled_constant : (a : List Tok) (c : ConstSyntax) → Const a c → Spelt a → SpelledConstant c
-spelled_constant a c (g.a_number m k z w n) h = tt
-spelled_constant a c (g.bits m k z w n) h = tt
-spelled_constant a c (g.a_text s) h = h.1.0
-spelled_constant a c g.true_word h = tt
-spelled_constant a c g.false_word h = tt
-spelled_constant a c g.null h = tt
-spelled_constant a c (g.empty m k w n) h = tt
+spelled_constant a c (leaf_grammar.a_number m k z w n) h = tt
+spelled_constant a c (leaf_grammar.bits m k z w n) h = tt
+spelled_constant a c (leaf_grammar.a_text s) h = h.1.0
+spelled_constant a c leaf_grammar.true_word h = tt
+spelled_constant a c leaf_grammar.false_word h = tt
+spelled_constant a c leaf_grammar.null h = tt
+spelled_constant a c (leaf_grammar.empty m k w n) h = tt
 
 spelled_fill : (a : List Tok) (f : FillSyntax) → Fill a f → Spelt a → SpelledFill f
-spelled_fill a f (g.a_const b c p) h = spelled_constant b c p h
-spelled_fill a f (g.empty_list b t p) h = tt
+spelled_fill a f (function_grammar.a_const b c p) h = spelled_constant b c p h
+spelled_fill a f (function_grammar.empty_list b t p) h = tt
 
 spelled_function : (a : List Tok) (f : FunctionSyntax) → Function a f → Spelt a → SpelledFunction f
-spelled_function a f (g.rename x y) h = (h.1.0, h.1.1.0)
-spelled_function a f (g.add x b e p) h = (h.1.0, spelled_fill b e p h.1.1.1)
+spelled_function a f (function_grammar.rename x y) h = (h.1.0, h.1.1.0)
+spelled_function a f (function_grammar.add x b e p) h = (h.1.0, spelled_fill b e p h.1.1.1)
 spelled_function a f _ h = tt
 
 mutual
   spelled_rule : (d : ℕ) (a : List Tok) (r : RuleSyntax) → Rule d a r → Spelt a → SpelledRule r
-  spelled_rule d a r (g.seq e b rs p) h = spelled_rules e b rs p (front_spelt b _ h.1.1)
-  spelled_rule d a r (g.a_function e b f p) h = spelled_function b f p h
-  spelled_rule d a r (g.in_case e x b f p) h = spelled_function b f p h.1.1
+  spelled_rule d a r (rule_grammar.seq e b rs p) h = spelled_rules e b rs p (front_spelt b _ h.1.1)
+  spelled_rule d a r (rule_grammar.a_function e b f p) h = spelled_function b f p h
+  spelled_rule d a r (rule_grammar.in_case e x b f p) h = spelled_function b f p h.1.1
   spelled_rule d a r _ h = tt
 
   spelled_rules : (d : ℕ) (a : List Tok) (rs : List RuleSyntax) → Rules d a rs → Spelt a → SpelledRules (rules_of rs)
-  spelled_rules d a rs (g.last_rule e b r p) h = (spelled_rule e b r p h, tt)
-  spelled_rules d a rs (g.more_rules e b k r ss p q) h = (spelled_rule _ b r p (front_spelt b _ h), spelled_rules e k ss q (rest_spelt b _ h).1)
+  spelled_rules d a rs (rule_grammar.last_rule e b r p) h = (spelled_rule e b r p h, tt)
+  spelled_rules d a rs (rule_grammar.more_rules e b k r ss p q) h = (spelled_rule _ b r p (front_spelt b _ h), spelled_rules e k ss q (rest_spelt b _ h).1)
 
 spelled_fix : (a : List Tok) (f : FixSyntax) → Fix a f → Spelt a → SpelledFix f
 spelled_fix a f (g.a_rule b r p) h = spelled_rule _ b r p h

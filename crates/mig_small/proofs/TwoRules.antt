@@ -2,7 +2,7 @@
 use Rattle.std.proofs.Common.{◌≡◌, ℕ, List, [], ◌∷◌, sym, subst, ◌∙◌}
 use Rattle.mig_model.specs.declared.form.Form.{Form}
 use Rattle.mig_model.specs.Const.{Const}
-use Rattle.mig_parse.specs.RuleSyntax.{RuleSyntax}
+use Rattle.mig_syntax.specs.RuleSyntax.{RuleSyntax}
 use Rattle.mig_small.specs.Pieces.{SmallEdits, IsRename, IsAdd, AreEdits}
 use Rattle.mig_small.proofs.Found.{One}
 

@@ -1,4 +1,4 @@
--- The nine pieces of a small chain's text, and its chain.
+-- The pieces of a small chain's text, and its chain.
 use Rattle.std.proofs.Common.{◌≡◌, ◌≤◌, ℕ, pos, List, [], ◌∷◌, length, true, false, None, Ok, Err, refl, sym, ap, subst, ◌∙◌}
 use Rattle.std.specs.List.{AllByRecursion}
 use Rattle.std.specs.Prelude.{IfOk}
@@ -9,21 +9,21 @@ use Rattle.mig_small.specs.declared.fault.SmallFault.TheVariants.{NotYet, Memory
 use Rattle.mig_small.specs.Chain.{Chain, IsAccepted}
 use Rattle.mig_token.specs.Lexical.{IsWhite}
 use Rattle.mig_token.specs.Cuts.{Cuts}
-use Rattle.mig_parse.specs.TemplateSyntax as template
-use Rattle.mig_parse.specs.TemplateSyntax.{fields_of}
-use Rattle.mig_parse.specs.RuleSyntax as rule
-use Rattle.mig_parse.specs.RuleSyntax.{rules_of}
-use Rattle.mig_parse.specs.DeclSyntax as decl
-use Rattle.mig_parse.specs.DeclSyntax.{DeclSyntax}
+use Rattle.mig_syntax.specs.TemplateSyntax as template
+use Rattle.mig_syntax.specs.TemplateSyntax.{fields_of}
+use Rattle.mig_syntax.specs.RuleSyntax as rule
+use Rattle.mig_syntax.specs.RuleSyntax.{rules_of}
+use Rattle.mig_syntax.specs.DeclSyntax as decl
+use Rattle.mig_syntax.specs.DeclSyntax.{DeclSyntax}
 use Rattle.mig_small.specs.Small.{Small, chain_of, IsSpelled, IsSpelledConst, IsKept}
-use Rattle.mig_small.specs.SmallText.{IsSmallText, AreDeclarations}
+use Rattle.mig_small.specs.SmallText.{IsSmallText, AreDeclarations, max_text}
 use Rattle.mig_small.specs.Pieces.{Finds, IsDeclared, SmallEdits}
-use Rattle.mig_small.specs.Nine.{NinePieces, SchemaPieces, IsNine}
+use Rattle.mig_small.specs.ChainPieces.{ChainPieces, SchemaPieces, in_order, ArePieces}
 use Rattle.mig_small.proofs.Accepted.{accepted, shaped, steps_of}
 use Rattle.mig_small.proofs.Spelled.{spelled, spelled_meaning}
 
-pub nine_accepted : (p : NinePieces) (s : Small) → IsNine p s → IsAccepted (chain_of s)
-nine_accepted p s n = accepted s n.before.head.0 n.after.head.0 n.order n.before.formed n.after.formed n.lifts
+pub pieces_accepted : (p : ChainPieces) (s : Small) → ArePieces p s → IsAccepted (chain_of s)
+pieces_accepted p s n = accepted s n.before.head.0 n.after.head.0 n.order n.before.formed n.after.formed n.lifts
 
 -- the strings of the fix
 record FixStrings (s : Small) : Type 0 where
@@ -31,7 +31,7 @@ record FixStrings (s : Small) : Type 0 where
   pub added : IsSpelled s.added
   pub constant : IsSpelledConst s.constant
 
-fix_strings : (p : NinePieces) (s : Small) → IsNine p s → FixStrings s
+fix_strings : (p : ChainPieces) (s : Small) → ArePieces p s → FixStrings s
 fix_strings p s n =
     let f = n.fix in
     let e = f.3 in
@@ -41,11 +41,11 @@ fix_strings p s n =
     let told = spelled p.fix _ (subst (IsDeclared p.fix) is f.2) in
     record { new_name = told.0.1; added = told.1.0.0; constant = spelled_meaning add.0 s.constant add.2 told.1.0.1 }
 
-pub kept : (p : NinePieces) (s : Small) → IsNine p s → IsKept s
+pub kept : (p : ChainPieces) (s : Small) → ArePieces p s → IsKept s
 kept p s n =
     let strings = fix_strings p s n in
     record {
-      accepted = nine_accepted p s n;
+      accepted = pieces_accepted p s n;
       before = n.before.named.2.ascend;
       after = n.after.named.2.ascend;
       version = spelled p.version (decl.version s.version n.version.0) n.version.1;
@@ -55,11 +55,8 @@ kept p s n =
       form = n.fix.3.4.3;
     }
 
-abbrev pub nine_list : NinePieces → List (List ℕ)
-nine_list p = p.form ∷ p.version ∷ p.before.head ∷ p.before.named ∷ p.before.root ∷ p.fix ∷ p.after.head ∷ p.after.named ∷ p.after.root ∷ []
-
--- nine pieces that spell a small chain are a small chain's text
-pub whole : (text rest : List ℕ) (p : NinePieces) (s : Small) → length text ≤ 1048576 → Cuts text (nine_list p) rest → AllByRecursion IsWhite rest → IsNine p s → IsSmallText text (chain_of s)
+-- pieces that spell a small chain are a small chain's text
+pub whole : (text rest : List ℕ) (p : ChainPieces) (s : Small) → length text ≤ max_text → Cuts text (in_order p) rest → AllByRecursion IsWhite rest → ArePieces p s → IsSmallText text (chain_of s)
 whole text rest p s short cuts blank n =
     let b = n.before.named in
     let a = n.after.named in
@@ -67,7 +64,7 @@ whole text rest p s short cuts blank n =
     let e = f.3 in
     let add = e.4 in
     record {
-      pieces = nine_list p;
+      pieces = in_order p;
       rest = rest;
       declarations = decl.form s.form ∷ decl.version s.version n.version.0 ∷ decl.schema (pos s.first) _ ∷ decl.named s.root (template.record_of (fields_of b.0) _ _) ∷ decl.root s.root
           ∷ decl.fix (pos s.second) (decl.rule (rule.seq (rules_of f.0))) ∷ decl.schema (pos s.second) _ ∷ decl.named s.root (template.record_of (fields_of a.0) _ _) ∷ decl.root s.root ∷ [];
@@ -104,10 +101,10 @@ whole text rest p s short cuts blank n =
         in_form = add.3;
         steps = refl;
       };
-      accepted = nine_accepted p s n;
+      accepted = pieces_accepted p s n;
     }
 
--- ---- a small chain's text has nine such pieces
+-- ---- a small chain's text has such pieces
 first_of : (ps : List (List ℕ)) (d : DeclSyntax) (ds : List DeclSyntax) → AreDeclarations ps (d ∷ ds) → (b : List ℕ) × (bs : List (List ℕ)) × (ps ≡ b ∷ bs) × IsDeclared b d × AreDeclarations bs ds
 first_of [] d ds h = absurd h
 first_of (b ∷ bs) d ds h = (b, bs, refl, h.0, h.1)
@@ -117,14 +114,14 @@ none_left [] h = refl
 none_left (b ∷ bs) h = absurd h
 
 pub record Told (text : List ℕ) (c : Chain) : Type 0 where
-  pub p : NinePieces
+  pub p : ChainPieces
   pub s : Small
   pub rest : List ℕ
-  pub short : length text ≤ 1048576
-  pub cuts : Cuts text (nine_list p) rest
+  pub short : length text ≤ max_text
+  pub cuts : Cuts text (in_order p) rest
   pub blank : AllByRecursion IsWhite rest
   pub is : c ≡ chain_of s
-  pub nine : IsNine p s
+  pub are : ArePieces p s
 
 pub told : (text : List ℕ) (c : Chain) → IsSmallText text c → Told text c
 told text c t =
@@ -142,9 +139,9 @@ told text c t =
     let end = none_left x9.1 x9.4 in
     let before : SchemaPieces = record { head = x3.0; named = x4.0; root = x5.0 } in
     let after : SchemaPieces = record { head = x7.0; named = x8.0; root = x9.0 } in
-    let p : NinePieces = record { form = x1.0; version = x2.0; before = before; fix = x6.0; after = after } in
+    let p : ChainPieces = record { form = x1.0; version = x2.0; before = before; fix = x6.0; after = after } in
     let rules = rule.function None (rule.rename sp.old_name sp.new_name) ∷ rule.function None (rule.add sp.added (rule.const sp.constant)) ∷ [] in
-    let pieces_are : t.pieces ≡ nine_list p =
+    let pieces_are : t.pieces ≡ in_order p =
     x1.2 ∙ ap (λ l. x1.0 ∷ l) (x2.2 ∙ ap (λ l. x2.0 ∷ l) (x3.2 ∙ ap (λ l. x3.0 ∷ l) (x4.2 ∙ ap (λ l. x4.0 ∷ l) (x5.2 ∙ ap (λ l. x5.0 ∷ l) (x6.2 ∙ ap (λ l. x6.0 ∷ l) (x7.2 ∙ ap (λ l. x7.0 ∷ l) (x8.2 ∙ ap (λ l. x8.0 ∷ l) (x9.2 ∙ ap (λ l. x9.0 ∷ l) end)))))))) in
     let e : SmallEdits = ((sp.old_name, sp.new_name), (sp.added, sp.meant)) in
     let with_steps = subst (λ steps. IsAccepted (record { form = c.form; version = c.version; missing = c.missing; steps = steps })) sp.steps t.accepted in
@@ -163,7 +160,7 @@ told text c t =
       cuts = subst (λ ps. Cuts text ps t.rest) pieces_are t.cuts;
       blank = t.blank;
       is = λ i. record { form = c.form; version = sp.path i; missing = c.missing; steps = steps_are i };
-      nine = record {
+      are = record {
         form = x1.3;
         version = (sp.missing, x2.3, sp.is_missing);
         before = record { head = (h.first_small, x3.3); named = (sp.fields, x4.3, sp.makes_before); root = subst (λ r. IsDeclared x5.0 (decl.root r)) h.root_is x5.3; formed = h.formed };
@@ -175,32 +172,32 @@ told text c t =
     }
 
 -- ---- what is found of the pieces is found of the text
-abbrev pieces_from : List (List ℕ) → NinePieces
+abbrev pieces_from : List (List ℕ) → ChainPieces
 pieces_from (a ∷ b ∷ c ∷ d ∷ e ∷ f ∷ g ∷ h ∷ i ∷ []) = record { form = a; version = b; before = record { head = c; named = d; root = e }; fix = f; after = record { head = g; named = h; root = i } }
 pieces_from _ = record { form = []; version = []; before = record { head = []; named = []; root = [] }; fix = []; after = record { head = []; named = []; root = [] } }
 
-same_pieces : (p q : NinePieces) → nine_list p ≡ nine_list q → p ≡ q
+same_pieces : (p q : ChainPieces) → in_order p ≡ in_order q → p ≡ q
 same_pieces p q e = ap pieces_from e
 
-module _ (text rest : List ℕ) (p : NinePieces) (cuts : Cuts text (nine_list p) rest) where
-  nine_of : (c : Chain) (o : Told text c) → IsNine p o.s
-  nine_of c o = subst (λ q. IsNine q o.s) (same_pieces o.p p (one_cut text (nine_list o.p) (nine_list p) o.rest rest o.cuts cuts).0) o.nine
+module _ (text rest : List ℕ) (p : ChainPieces) (cuts : Cuts text (in_order p) rest) where
+  pieces_of : (c : Chain) (o : Told text c) → ArePieces p o.s
+  pieces_of c o = subst (λ q. ArePieces q o.s) (same_pieces o.p p (one_cut text (in_order o.p) (in_order p) o.rest rest o.cuts cuts).0) o.are
 
-  pub text_found : length text ≤ 1048576 → AllByRecursion IsWhite rest → (r : Result Small SmallFault) → Finds (λ s. s) (IsNine p) r → IfOk r (λ s. IsSmallText text (chain_of s))
+  pub text_found : length text ≤ max_text → AllByRecursion IsWhite rest → (r : Result Small SmallFault) → Finds (λ s. s) (ArePieces p) r → IfOk r (λ s. IsSmallText text (chain_of s))
   text_found short blank (Ok s) h = whole text rest p s short cuts blank h.0
   text_found short blank (Err e) h = tt
 
-  pub text_none : (r : Result Small SmallFault) → Finds (λ s. s) (IsNine p) r → r ≡ Err NotYet → (c : Chain) → IsSmallText text c → ⊥
+  pub text_none : (r : Result Small SmallFault) → Finds (λ s. s) (ArePieces p) r → r ≡ Err NotYet → (c : Chain) → IsSmallText text c → ⊥
   text_none (Ok s) h e c t = absurd cc
-  text_none (Err NotYet) h e c t = let o = told text c t in h o.s (nine_of c o)
+  text_none (Err NotYet) h e c t = let o = told text c t in h o.s (pieces_of c o)
   text_none (Err Memory) h e c t = absurd cc
 
-  pub text_only : (r : Result Small SmallFault) → Finds (λ s. s) (IsNine p) r → IfOk r (λ s. (c : Chain) → IsSmallText text c → c ≡ chain_of s)
-  text_only (Ok s) h = λ c t. let o = told text c t in o.is ∙ ap chain_of (h.1 o.s (nine_of c o))
+  pub text_only : (r : Result Small SmallFault) → Finds (λ s. s) (ArePieces p) r → IfOk r (λ s. (c : Chain) → IsSmallText text c → c ≡ chain_of s)
+  text_only (Ok s) h = λ c t. let o = told text c t in o.is ∙ ap chain_of (h.1 o.s (pieces_of c o))
   text_only (Err e) h = tt
 
 -- the pieces of a small chain's text
-pub cut_into : (text rest : List ℕ) (ps : List (List ℕ)) (c : Chain) (o : Told text c) → Cuts text ps rest → (ps ≡ nine_list o.p) × AllByRecursion IsWhite rest
+pub cut_into : (text rest : List ℕ) (ps : List (List ℕ)) (c : Chain) (o : Told text c) → Cuts text ps rest → (ps ≡ in_order o.p) × AllByRecursion IsWhite rest
 cut_into text rest ps c o cuts =
-    let one = one_cut text ps (nine_list o.p) rest o.rest cuts o.cuts in
+    let one = one_cut text ps (in_order o.p) rest o.rest cuts o.cuts in
     (one.0, subst (AllByRecursion IsWhite) (sym one.1) o.blank)

@@ -8,4 +8,4 @@ pub mod Pieces
 pub mod Faults
 pub mod Views
 pub mod Lifted
-pub mod Nine
+pub mod ChainPieces

@@ -1,5 +1,5 @@
 -- What each piece of a small chain's text has to be, and what is read from it.
-use Rattle.std.specs.Prelude.{◌≡◌, ◌≤◌, ℕ, ℤ, pos, List, [], ◌∷◌, true, false, Option, None, IsTrue, ◌&&◌}
+use Rattle.std.specs.Prelude.{◌≡◌, ◌≤◌, ℕ, ℤ, pos, List, [], ◌∷◌, true, false, Option, Some, None, IsTrue, ◌&&◌}
 use Rattle.std.specs.declared.result.Result.{Result}
 use Rattle.std.specs.declared.result.Result.TheVariants.{Ok, Err}
 use Rattle.mig_model.specs.declared.form.Form.{Form}
@@ -9,12 +9,12 @@ use Rattle.mig_model.specs.Family.{Family, IsFormed}
 use Rattle.mig_model.specs.Version.{last_version}
 use Rattle.mig_token.specs.Token.{Tok}
 use Rattle.mig_token.specs.Lexical.{AreTokens}
-use Rattle.mig_parse.specs.TemplateSyntax as template
-use Rattle.mig_parse.specs.TemplateSyntax.{FieldSyntax, fields_of}
-use Rattle.mig_parse.specs.RuleSyntax as rule
-use Rattle.mig_parse.specs.RuleSyntax.{ConstSyntax, RuleSyntax, rules_of}
-use Rattle.mig_parse.specs.DeclSyntax as decl
-use Rattle.mig_parse.specs.DeclSyntax.{DeclSyntax}
+use Rattle.mig_syntax.specs.TemplateSyntax as template
+use Rattle.mig_syntax.specs.TemplateSyntax.{FieldSyntax, fields_of}
+use Rattle.mig_syntax.specs.RuleSyntax as rule
+use Rattle.mig_syntax.specs.RuleSyntax.{ConstSyntax, RuleSyntax, rules_of}
+use Rattle.mig_syntax.specs.DeclSyntax as decl
+use Rattle.mig_syntax.specs.DeclSyntax.{DeclSyntax}
 use Rattle.mig_parse.specs.Grammar.{Declaration}
 use Rattle.mig_small.specs.declared.fault.SmallFault.{SmallFault}
 use Rattle.mig_small.specs.declared.fault.SmallFault.TheVariants as faults
@@ -26,6 +26,11 @@ abbrev pub Finds : {X Y : Type 0} → (X → Y) → (Y → Type 0) → Result X 
 Finds view P (Ok x) = P (view x) × ((y : _) → P y → y ≡ view x)
 Finds view P (Err faults.NotYet) = (y : _) → P y → ⊥
 Finds view P (Err faults.Memory) = Unit {0}
+
+-- what is there has the property, and nothing is there where nothing has it
+abbrev pub Offers : {X Y : Type 0} → (X → Y) → (Y → Type 0) → Option X → Type 0
+Offers view P None = (y : _) → P y → ⊥
+Offers view P (Some x) = P (view x)
 
 -- the piece is the declaration
 abbrev pub IsDeclared : List ℕ → DeclSyntax → Type 0

@@ -2,13 +2,11 @@
 use Rattle.std.specs.Prelude.{◌≤◌, ◌<◌, ◌^◌, ℕ, List, [], ◌∷◌, Option, Some, length, IsTrue, IsUtf8}
 use Rattle.std.specs.Str.{chars}
 use Rattle.std.specs.List.{AllByRecursion}
-use Rattle.std.specs.List.Sorted.{IsStrictlySortedBy}
-use Rattle.std.specs.Map.{keys_of}
 use Rattle.mig_model.specs.declared.form.Form.{Form}
 use Rattle.mig_model.specs.declared.kind.Kind.{Kind}
 use Rattle.mig_model.specs.declared.presence.Presence.TheVariants.{Must}
 use Rattle.mig_model.specs.declared.rest.Rest.TheVariants.{Open}
-use Rattle.mig_model.specs.Names.{by_bytes}
+use Rattle.mig_model.specs.Ascends.{Ascends}
 use Rattle.mig_model.specs.Template.{Template, leaf, rec, Fields, no_field, field, no_choice, is_of_form}
 use Rattle.mig_model.specs.Const.{Const, text, const_kind}
 use Rattle.mig_small.specs.Function.{rename, add}
@@ -66,7 +64,7 @@ chain_of s = record {
 
 -- the names ascend by bytes
 abbrev pub Ascend : List LeafField → Type 0
-Ascend fs = IsStrictlySortedBy by_bytes (keys_of fs)
+Ascend fs = Ascends fs
 
 -- a string of a chain text: characters from U+0020 to U+FFFF, and at most 1,024 bytes
 pub record IsSpelled (s : List ℕ) : Type 0 where

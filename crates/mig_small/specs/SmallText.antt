@@ -14,12 +14,12 @@ use Rattle.mig_small.specs.Chain.{Chain, schema, fix, IsAccepted}
 use Rattle.mig_token.specs.Token.{Tok}
 use Rattle.mig_token.specs.Lexical.{IsWhite, AreTokens}
 use Rattle.mig_token.specs.Cuts.{Cuts}
-use Rattle.mig_parse.specs.TemplateSyntax as template
-use Rattle.mig_parse.specs.TemplateSyntax.{FieldSyntax, fields_of}
-use Rattle.mig_parse.specs.RuleSyntax as rule
-use Rattle.mig_parse.specs.RuleSyntax.{ConstSyntax, rules_of}
-use Rattle.mig_parse.specs.DeclSyntax as decl
-use Rattle.mig_parse.specs.DeclSyntax.{DeclSyntax}
+use Rattle.mig_syntax.specs.TemplateSyntax as template
+use Rattle.mig_syntax.specs.TemplateSyntax.{FieldSyntax, fields_of}
+use Rattle.mig_syntax.specs.RuleSyntax as rule
+use Rattle.mig_syntax.specs.RuleSyntax.{ConstSyntax, rules_of}
+use Rattle.mig_syntax.specs.DeclSyntax as decl
+use Rattle.mig_syntax.specs.DeclSyntax.{DeclSyntax}
 use Rattle.mig_parse.specs.Grammar.{Declaration}
 use Rattle.mig_small.specs.Small.{LeafField, open_record, Ascend}
 
@@ -102,12 +102,16 @@ AreDeclarations [] [] = Unit {0}
 AreDeclarations (b ∷ bs) (d ∷ ds) = ((ts : List Tok) × AreTokens b ts × Declaration ts d) × AreDeclarations bs ds
 AreDeclarations _ _ = ⊥
 
+-- the length of the longest text, in bytes
+abbrev pub max_text : ℕ
+max_text = 1048576
+
 -- the text is a small chain: an accepted text of the nine declarations, whose chain is c
 pub record IsSmallText (text : List ℕ) (c : Chain) : Type 0 where
   pub pieces : List (List ℕ)
   pub rest : List ℕ
   pub declarations : List DeclSyntax
-  pub short : length text ≤ 1048576
+  pub short : length text ≤ max_text
   pub cuts : Cuts text pieces rest
   pub blank : AllByRecursion IsWhite rest
   pub each : AreDeclarations pieces declarations

@@ -3,10 +3,10 @@ use Rattle.std.specs.Prelude.{map}
 use Rattle.mig_leaf.specs.View.{const_of}
 use Rattle.mig_small.specs.declared.edits.Edits.{Edits}
 use Rattle.mig_small.specs.declared.schema.Schema.{Schema}
-use Rattle.mig_small.specs.declared.nine.SchemaText.{SchemaText}
-use Rattle.mig_small.specs.declared.nine.NineText.{NineText}
+use Rattle.mig_small.specs.declared.chain_text.SchemaText.{SchemaText}
+use Rattle.mig_small.specs.declared.chain_text.ChainText.{ChainText}
 use Rattle.mig_small.specs.Pieces.{SmallEdits, SmallSchema}
-use Rattle.mig_small.specs.Nine.{SchemaPieces, NinePieces}
+use Rattle.mig_small.specs.ChainPieces.{SchemaPieces, ChainPieces}
 use Rattle.mig_small.specs.View.{field_of}
 
 abbrev pub edits_of : Edits → SmallEdits
@@ -18,5 +18,5 @@ schema_of s = record { version = s.version; root = s.root; fields = map field_of
 abbrev pub schema_pieces : SchemaText → SchemaPieces
 schema_pieces p = record { head = p.head.now; named = p.named.now; root = p.root.now }
 
-abbrev pub nine_pieces : NineText → NinePieces
-nine_pieces p = record { form = p.form.now; version = p.version.now; before = schema_pieces p.before; fix = p.fix.now; after = schema_pieces p.after }
+abbrev pub chain_pieces : ChainText → ChainPieces
+chain_pieces p = record { form = p.form.now; version = p.version.now; before = schema_pieces p.before; fix = p.fix.now; after = schema_pieces p.after }

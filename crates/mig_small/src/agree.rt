@@ -1,6 +1,7 @@
+//! Whether the fix leads from the first schema to the second.
 ghost use Rattle.std.specs.Prelude.{◌↔◌, IsTrue, IfOk, map};
 ghost use Rattle.mig_small.specs.Small.{Ascend};
-ghost use Rattle.mig_small.specs.Nine.{Agrees};
+ghost use Rattle.mig_small.specs.ChainPieces.{Agrees};
 ghost use Rattle.mig_small.specs.View.{field_of};
 ghost use Rattle.mig_small.specs.Views.{edits_of, schema_of};
 
@@ -19,7 +20,8 @@ pub(crate) fn agree(
     after: &Schema,
 ) -> Result<bool, Memory>
     requires { Ascend (map field_of before.now.fields.items) }
-    ensures { IfOk result (λ b. IsTrue b ↔ Agrees (schema_of before.now) number (edits_of edits.now) (schema_of after.now)) }
+    ensures { IfOk result (λ b. IsTrue b
+        ↔ Agrees (schema_of before.now) number (edits_of edits.now) (schema_of after.now)) }
 {
     if before.version >= after.version || number != after.version {
         return Ok(false);

@@ -1,10 +1,9 @@
-ghost use Rattle.std.specs.Prelude.{◌≡◌, MatchOption};
-ghost use Rattle.mig_model.specs.Const as model;
+//! Constants, in the range of their kinds.
 ghost use Rattle.mig_leaf.specs.View.{const_of};
-ghost use Rattle.mig_parse.specs.RuleSyntax as rule;
-ghost use Rattle.mig_parse.specs.RuleView as syntax;
+ghost use Rattle.mig_syntax.specs.RuleSyntax as rule;
+ghost use Rattle.mig_syntax.specs.RuleView as syntax;
 ghost use Rattle.mig_small.specs.SmallText.{Means};
-ghost use Rattle.mig_small.specs.Pieces.{Finds};
+ghost use Rattle.mig_small.specs.Pieces.{Finds, Offers};
 
 use crate::SmallFault;
 use mig_leaf::Const;
@@ -14,7 +13,7 @@ use std::alloc::Global;
 
 /// The constant of a whole number in the range of its kind.
 fn whole_number(kind: Kind, number: i128) -> Option<Const>
-    ensures { MatchOption result ((c : model.Const) → Means (rule.number kind number) c → ⊥) (λ c. Means (rule.number kind number) (const_of c)) }
+    ensures { Offers const_of (Means (rule.number kind number)) result }
 {
     match kind {
         Kind::Byte => Some(Const::Byte(i8::try_from(number).ok()?)),
@@ -28,7 +27,7 @@ fn whole_number(kind: Kind, number: i128) -> Option<Const>
 
 /// The constant of the bits of a kind, where they are as many as the kind has.
 fn bits(kind: Kind, number: i128) -> Option<Const>
-    ensures { MatchOption result ((c : model.Const) → Means (rule.bits kind number) c → ⊥) (λ c. Means (rule.bits kind number) (const_of c)) }
+    ensures { Offers const_of (Means (rule.bits kind number)) result }
 {
     match kind {
         Kind::Float => Some(Const::Float(u32::try_from(number).ok()?)),
@@ -39,7 +38,7 @@ fn bits(kind: Kind, number: i128) -> Option<Const>
 
 /// The empty array of the kind.
 fn empty(kind: Kind) -> Option<Const>
-    ensures { MatchOption result ((c : model.Const) → Means (rule.empty kind) c → ⊥) (λ c. Means (rule.empty kind) (const_of c)) }
+    ensures { Offers const_of (Means (rule.empty kind)) result }
 {
     match kind {
         Kind::Bytes => Some(Const::NoBytes),

@@ -1,7 +1,8 @@
+//! What each piece of a text declares.
 ghost use Rattle.std.specs.Prelude.{◌≡◌, ◌≤◌, ℕ, pos, map, MatchOption, Some, None};
 ghost use Rattle.mig_model.specs.Version.{last_version};
-ghost use Rattle.mig_parse.specs.DeclSyntax as decl;
-ghost use Rattle.mig_parse.specs.DeclView.{decl_of};
+ghost use Rattle.mig_syntax.specs.DeclSyntax as decl;
+ghost use Rattle.mig_syntax.specs.DeclView.{decl_of};
 ghost use Rattle.mig_small.specs.SmallText.{IsMissing};
 ghost use Rattle.mig_small.specs.Pieces.{Finds, IsDeclared, IsVersion, IsHead, IsRecord, IsFix};
 ghost use Rattle.mig_small.specs.View.{field_of};
@@ -35,11 +36,15 @@ pub(crate) fn form_declared(alloc: Global, piece: &[u8]) -> Result<Form, SmallFa
     }
 }
 
-/// The number as a version, from 0 to 2,147,483,647.
+/// The greatest version.
+const LAST_VERSION: i128 = 2_147_483_647;
+
+/// The number as a version, where it is one.
 pub(crate) fn version_number(number: i128) -> Option<u32>
-    ensures { MatchOption result ((n : ℕ) → number ≡ pos n → n ≤ last_version → ⊥) (λ n. (number ≡ pos n) × (n ≤ last_version)) }
+    ensures { MatchOption result ((n : ℕ) → number ≡ pos n → n ≤ last_version → ⊥)
+        (λ n. (number ≡ pos n) × (n ≤ last_version)) }
 {
-    if number < 0 || number > 2_147_483_647 {
+    if number < 0 || number > LAST_VERSION {
         return None;
     }
     Some(number as u32)

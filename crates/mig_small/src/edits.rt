@@ -1,6 +1,7 @@
+//! What the fix does.
 ghost use Rattle.std.specs.Prelude.{◌≡◌, ◌∷◌, [], map, MatchOption};
-ghost use Rattle.mig_parse.specs.RuleSyntax.{RuleSyntax};
-ghost use Rattle.mig_parse.specs.RuleView.{rule_of};
+ghost use Rattle.mig_syntax.specs.RuleSyntax.{RuleSyntax};
+ghost use Rattle.mig_syntax.specs.RuleView.{rule_of};
 ghost use Rattle.mig_leaf.specs.View.{const_of};
 ghost use Rattle.mig_small.specs.Pieces.{Finds, IsRename, IsAdd, AreEdits};
 ghost use Rattle.mig_small.specs.Views.{edits_of};
@@ -14,7 +15,7 @@ use mig_parse::{FillText, FunctionText, RuleText};
 use std::alloc::Global;
 
 /// What the fix of a small chain does.
-#[derive(Debug, Drop)]
+#[derive(Drop)]
 pub(crate) struct Edits {
     pub old_name: Name,
     pub new_name: Name,
@@ -53,7 +54,8 @@ fn adds(alloc: Global, form: Form, rule: &RuleText) -> Result<(Name, Const), Sma
 
 /// The two rules, where there are two.
 fn two(rules: &[RuleText]) -> Option<(&RuleText, &RuleText)>
-    ensures { MatchOption result ((r s : RuleSyntax) → map rule_of rules.now ≡ r ∷ s ∷ [] → ⊥) (λ p. map rule_of rules.now ≡ rule_of p.0.now ∷ rule_of p.1.now ∷ []) }
+    ensures { MatchOption result ((r s : RuleSyntax) → map rule_of rules.now ≡ r ∷ s ∷ [] → ⊥)
+        (λ p. map rule_of rules.now ≡ rule_of p.0.now ∷ rule_of p.1.now ∷ []) }
 {
     match rules {
         [first, second] => Some((first, second)),

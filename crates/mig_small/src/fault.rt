@@ -1,3 +1,4 @@
+//! Why a text is no small chain.
 ghost use Rattle.std.specs.Prelude.{◌≡◌};
 ghost use Rattle.mig_small.specs.declared.fault.SmallFault.TheVariants as faults;
 ghost use Rattle.mig_small.specs.Faults.{of_lex, of_parse};

@@ -2,13 +2,13 @@
 #![tactic(auto)]
 
 mod agree;
+mod chain_text;
 mod constant;
 mod declarations;
 mod edits;
 mod fault;
 mod field;
 mod lift;
-mod nine;
 mod read;
 mod record;
 mod schema;

@@ -1,3 +1,4 @@
+//! What the fix makes of the fields.
 ghost use Rattle.std.specs.Prelude.{◌≡◌, ◌↔◌, IsTrue, IfOk, IfSome, Some, length, map, option_map};
 ghost use Rattle.std.specs.List.Sorted.{IsSearchInRange};
 ghost use Rattle.std_collections.specs.Layout.BTreeMap.{seek};
@@ -10,23 +11,16 @@ ghost use Rattle.mig_small.specs.Views.{edits_of};
 use crate::SmallField;
 use crate::edits::Edits;
 use crate::schema::{has_field, is_same};
-use mig_model::{Kind, Memory, Name};
+use mig_model::{Kind, Memory, Name, place_by_key};
 use std::alloc::Global;
-use std::cmp::Ordering;
 
-/// Where the name is, or where it would go.
+/// Where the name is, or where it would go. It takes log n comparisons.
 fn place(list: &[SmallField], name: &[u8]) -> Result<usize, usize>
+    requires { Ascend (map field_of list.now) }
     ensures bound { IsSearchInRange result (length list.now) }
     ensures place { result ≡ seek (by_bytes name.now) (map field_of list.now) }
 {
-    for (i, field) in list.iter().enumerate() {
-        match name.cmp(field.name.bytes()) {
-            Ordering::Less => return Err(i),
-            Ordering::Equal => return Ok(i),
-            Ordering::Greater => {}
-        }
-    }
-    Err(list.len())
+    place_by_key(list, name)
 }
 
 /// A copy of the fields.
@@ -50,7 +44,8 @@ fn extended(
     kind: Kind,
 ) -> Result<Option<Vec<SmallField>>, Memory>
     requires { Ascend (map field_of list.items) }
-    ensures fields { IfOk result (λ r. option_map (λ v. map field_of v.items) r ≡ extended name kind (map field_of list.items)) }
+    ensures fields { IfOk result (λ r. option_map (λ v. map field_of v.items) r
+        ≡ extended name kind (map field_of list.items)) }
     ensures ascend { IfOk result (λ r. IfSome r (λ v. Ascend (map field_of v.items))) }
 {
     match place(&list, name.bytes()) {
@@ -98,7 +93,8 @@ fn renamed(
     new: Name,
 ) -> Result<Option<Vec<SmallField>>, Memory>
     requires { Ascend (map field_of list.items) }
-    ensures fields { IfOk result (λ r. option_map (λ v. map field_of v.items) r ≡ renamed old.now new (map field_of list.items)) }
+    ensures fields { IfOk result (λ r. option_map (λ v. map field_of v.items) r
+        ≡ renamed old.now new (map field_of list.items)) }
     ensures ascend { IfOk result (λ r. IfSome r (λ v. Ascend (map field_of v.items))) }
 {
     match place(&list, old) {
@@ -122,7 +118,8 @@ pub(crate) fn lifts(
     after: &[SmallField],
 ) -> Result<bool, Memory>
     requires { Ascend (map field_of before.now) }
-    ensures { IfOk result (λ b. IsTrue b ↔ (lifted (edits_of edits.now) (map field_of before.now) ≡ Some (map field_of after.now))) }
+    ensures { IfOk result (λ b. IsTrue b
+        ↔ (lifted (edits_of edits.now) (map field_of before.now) ≡ Some (map field_of after.now))) }
 {
     let list = copied(alloc, before)?;
     let new_name = edits.new_name.copy(alloc)?;

@@ -1,14 +1,15 @@
+//! Reading a small chain.
 ghost use Rattle.std.specs.Prelude.{◌≡◌, Err, IfOk};
 ghost use Rattle.mig_small.specs.Chain.{Chain};
 ghost use Rattle.mig_small.specs.Small.{chain_of};
 ghost use Rattle.mig_small.specs.SmallText.{IsSmallText};
 ghost use Rattle.mig_small.specs.Pieces.{Finds};
-ghost use Rattle.mig_small.specs.Nine.{IsNine};
-ghost use Rattle.mig_small.specs.Views.{nine_pieces};
+ghost use Rattle.mig_small.specs.ChainPieces.{ArePieces};
+ghost use Rattle.mig_small.specs.Views.{chain_pieces};
 
 use crate::agree::agree;
+use crate::chain_text::{ChainText, chain_text};
 use crate::declarations::{fix_declared, form_declared, version_declared};
-use crate::nine::{NineText, nine};
 use crate::schema::read_schema;
 use crate::{SmallChain, SmallFault};
 use mig_lex::{cut, is_blank};
@@ -17,9 +18,9 @@ use std::alloc::Global;
 /// The length of the longest text, in bytes: this project's own limit.
 const MAX_TEXT: usize = 1_048_576;
 
-/// The small chain that the nine pieces spell.
-fn read_nine(alloc: Global, pieces: &NineText) -> Result<SmallChain, SmallFault>
-    ensures { Finds (λ s. s) (IsNine (nine_pieces pieces.now)) result }
+/// The small chain that the pieces spell.
+fn read_chain(alloc: Global, pieces: &ChainText) -> Result<SmallChain, SmallFault>
+    ensures { Finds (λ s. s) (ArePieces (chain_pieces pieces.now)) result }
 {
     let form = form_declared(alloc, pieces.form)?;
     let (version, missing) = version_declared(alloc, pieces.version)?;
@@ -45,8 +46,8 @@ pub fn read_small(alloc: Global, text: &[u8]) -> Result<SmallChain, SmallFault>
     if !is_blank(pieces.rest) {
         return Err(SmallFault::NotYet);
     }
-    match nine(&pieces.declarations) {
-        Some(nine) => read_nine(alloc, &nine),
+    match chain_text(&pieces.declarations) {
+        Some(text) => read_chain(alloc, &text),
         None => Err(SmallFault::NotYet),
     }
 }

@@ -1,18 +1,15 @@
-ghost use Rattle.std.specs.Prelude.{◌≡◌, ◌↔◌, IsTrue, IsPermutation, map};
-ghost use Rattle.std.specs.List.Sorted.{IsSortedByKey};
-ghost use Rattle.mig_model.specs.Names.{by_bytes};
-ghost use Rattle.mig_model.specs.Template.{is_of_form, is_leaf};
-ghost use Rattle.mig_parse.specs.TemplateView as syntax;
-ghost use Rattle.mig_small.specs.Small.{Ascend};
+//! The record of the fields of a type.
+ghost use Rattle.std.specs.Prelude.{◌≡◌, map};
+ghost use Rattle.mig_model.specs.Template.{is_of_form};
+ghost use Rattle.mig_syntax.specs.TemplateView as syntax;
 ghost use Rattle.mig_small.specs.SmallText.{AreLeaves, MakeRecord};
 ghost use Rattle.mig_small.specs.Pieces.{Finds, IsLeafField};
 ghost use Rattle.mig_small.specs.View.{field_of};
 
 use crate::{SmallFault, SmallField};
-use mig_model::{Form, Kind};
+use mig_model::{Form, Kind, ascends, sort_by_key};
 use mig_parse::{FieldText, TemplateText};
 use std::alloc::Global;
-use std::cmp::Ordering;
 
 /// Whether the kind is of the form.
 pub(crate) fn is_of_form(form: Form, kind: Kind) -> bool
@@ -25,13 +22,6 @@ pub(crate) fn is_of_form(form: Form, kind: Kind) -> bool
             Kind::Text | Kind::List | Kind::Map | Kind::Null | Kind::Bool | Kind::Whole
         ),
     }
-}
-
-/// Whether the kind is a leaf's.
-pub(crate) fn is_leaf(kind: Kind) -> bool
-    ensures { result ≡ is_leaf kind }
-{
-    !matches!(kind, Kind::List | Kind::Map)
 }
 
 /// The field that has no `?` and is a leaf of a kind of the form.
@@ -62,27 +52,6 @@ fn leaf_fields(
     Ok(leaves)
 }
 
-/// Sorts by the bytes of the names, in the list's place.
-fn sort_by_name(list: &mut Vec<SmallField>)
-    ensures permutation { IsPermutation list.old.items list.new.items }
-    ensures sorted { IsSortedByKey (λ f. f.name) by_bytes list.new.items }
-{
-    list.sort_unstable_by(|one, other| one.name.bytes().cmp(other.name.bytes()));
-}
-
-/// Whether each name stands before the next.
-fn ascends(list: &[SmallField]) -> bool
-    ensures { IsTrue result ↔ Ascend (map field_of list.now) }
-{
-    for at in 1..list.len() {
-        let before = list[at - 1].name.bytes();
-        if before.cmp(list[at].name.bytes()) != Ordering::Less {
-            return false;
-        }
-    }
-    true
-}
-
 /// The record of these fields, whose names are distinct.
 pub(crate) fn record(
     alloc: Global,
@@ -92,7 +61,7 @@ pub(crate) fn record(
     ensures { Finds (λ v. map field_of v.items) (MakeRecord form (map syntax.field_of fields.now)) result }
 {
     let mut leaves = leaf_fields(alloc, form, fields)?;
-    sort_by_name(&mut leaves);
+    sort_by_key(&mut leaves);
     if !ascends(&leaves) {
         drop(leaves);
         return Err(SmallFault::NotYet);

@@ -1,22 +1,23 @@
+//! A schema: its version, its root, and the fields of its type.
 ghost use Rattle.std.specs.Prelude.{◌≡◌, ◌↔◌, ◌&&◌, ℕ, List, IsTrue, map};
 ghost use Rattle.mig_model.specs.Template.{is_leaf, is_of_form};
 ghost use Rattle.std.specs.List.{AllByRecursion};
 ghost use Rattle.mig_model.specs.Family.{IsFormed};
 ghost use Rattle.mig_small.specs.Lifted.{has_field};
-ghost use Rattle.mig_small.specs.Nine.{AreSchema};
+ghost use Rattle.mig_small.specs.ChainPieces.{AreSchema};
 ghost use Rattle.mig_small.specs.View.{field_of};
 ghost use Rattle.mig_small.specs.Views.{schema_of, schema_pieces};
 ghost use Rattle.mig_small.specs.Pieces.{Finds, FitsForm, family_of};
 
+use crate::chain_text::SchemaText;
 use crate::declarations::{head_declared, record_declared, root_declared};
-use crate::nine::SchemaText;
-use crate::record::{is_leaf, is_of_form};
+use crate::record::is_of_form;
 use crate::{SmallFault, SmallField};
 use mig_model::{Form, Kind, Name};
 use std::alloc::Global;
 
 /// A schema of one type, which is the root's.
-#[derive(Debug, Drop)]
+#[derive(Drop)]
 pub(crate) struct Schema {
     pub version: u32,
     pub root: Name,
@@ -27,7 +28,7 @@ pub(crate) struct Schema {
 fn fits(form: Form, kind: Kind) -> bool
     ensures { result ≡ is_leaf kind && is_of_form form kind }
 {
-    is_leaf(kind) && is_of_form(form, kind)
+    kind.is_leaf() && is_of_form(form, kind)
 }
 
 /// Whether each field is a leaf of the form.
@@ -63,7 +64,8 @@ pub(crate) fn has_field(fields: &[SmallField], name: &[u8]) -> bool
 
 /// Whether the schema's family is formed.
 fn is_formed(form: Form, version: &[u8], fields: &[SmallField]) -> bool
-    ensures { (root : List ℕ) → (IsTrue result ↔ IsFormed (family_of form version.now root (map field_of fields.now))) }
+    ensures { (root : List ℕ) → (IsTrue result
+        ↔ IsFormed (family_of form version.now root (map field_of fields.now))) }
 {
     fit(form, fields) && !has_field(fields, version)
 }

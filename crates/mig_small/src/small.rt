@@ -1,3 +1,4 @@
+//! Small chains, and what each keeps.
 ghost use Rattle.std.specs.Prelude.{◌≡◌, map};
 
 use crate::SmallField;
@@ -40,7 +41,7 @@ impl SmallChain {
     ghost use Rattle.mig_leaf.specs.View.{const_of};
     ghost use Rattle.mig_small.specs.View.{field_of};
     ghost use Rattle.mig_small.specs.Small.{IsKept};
-    ghost use Rattle.mig_small.specs.Nine.{small_with};
+    ghost use Rattle.mig_small.specs.ChainPieces.{small_with};
     ghost use Rattle.mig_small.specs.Views.{edits_of, schema_of};
 
     /// The small chain of these parts.

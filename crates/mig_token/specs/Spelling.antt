@@ -1,5 +1,6 @@
 -- How each reserved word and each sign is written.
-use Rattle.std.specs.Prelude.{ℕ, List, codes}
+use Rattle.std.specs.Prelude.{ℕ, List, Bool, codes}
+use Rattle.std.specs.Str.{bytes_eq}
 use Rattle.mig_token.specs.declared.mark.Mark.{Mark}
 use Rattle.mig_token.specs.declared.mark.Mark.TheVariants as M
 
@@ -84,3 +85,7 @@ spelling M.Close = codes ")"
 spelling M.CurlyOpen = codes "{"
 spelling M.CurlyClose = codes "}"
 spelling M.Dots = codes ".."
+
+-- two marks are one: they are written alike
+abbrev pub is_same : Mark → Mark → Bool
+is_same m n = bytes_eq (spelling m) (spelling n)

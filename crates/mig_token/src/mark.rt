@@ -1,3 +1,8 @@
+//! The reserved words and the signs, and how each is written: the one table of them.
+ghost use Rattle.std.specs.Prelude.{◌≡◌, ◌≢◌, ◌↔◌, IsTrue, MatchOption};
+ghost use Rattle.mig_token.specs.declared.mark.Mark as declared;
+ghost use Rattle.mig_token.specs.Spelling.{spelling};
+
 /// A reserved word or a sign of a chain text. `docs/chain-text.md` lists them with the grammar.
 #[derive(Clone, Copy, Debug, PartialEq, Eq)]
 pub enum Mark {
@@ -81,4 +86,197 @@ pub enum Mark {
     CurlyOpen,
     CurlyClose,
     Dots,
+}
+
+/// Every mark, once.
+const MARKS: [Mark; 80] = [
+    Mark::Form,
+    Mark::Nbt,
+    Mark::Json,
+    Mark::Version,
+    Mark::Missing,
+    Mark::Schema,
+    Mark::Follows,
+    Mark::Type,
+    Mark::Root,
+    Mark::Fix,
+    Mark::NewType,
+    Mark::DropType,
+    Mark::Deep,
+    Mark::Each,
+    Mark::Left,
+    Mark::Right,
+    Mark::Case,
+    Mark::Nop,
+    Mark::All,
+    Mark::Everywhere,
+    Mark::On,
+    Mark::At,
+    Mark::Seq,
+    Mark::OrElse,
+    Mark::In,
+    Mark::Rename,
+    Mark::Drop,
+    Mark::Add,
+    Mark::Learn,
+    Mark::Forget,
+    Mark::Default,
+    Mark::MayBe,
+    Mark::Map,
+    Mark::Nest,
+    Mark::Unnest,
+    Mark::Wrap,
+    Mark::Unify,
+    Mark::Retag,
+    Mark::AddCase,
+    Mark::Or,
+    Mark::Any,
+    Mark::List,
+    Mark::Choice,
+    Mark::Byte,
+    Mark::Short,
+    Mark::Int,
+    Mark::Long,
+    Mark::Float,
+    Mark::Double,
+    Mark::Text,
+    Mark::Bytes,
+    Mark::Ints,
+    Mark::Longs,
+    Mark::Null,
+    Mark::Bool,
+    Mark::Whole,
+    Mark::Bits,
+    Mark::True,
+    Mark::False,
+    Mark::Empty,
+    Mark::Const,
+    Mark::Plus,
+    Mark::Times,
+    Mark::Clamp,
+    Mark::To,
+    Mark::ToText,
+    Mark::OfText,
+    Mark::Table,
+    Mark::Prefix,
+    Mark::Strip,
+    Mark::Lower,
+    Mark::Equals,
+    Mark::Colon,
+    Mark::Comma,
+    Mark::Question,
+    Mark::Open,
+    Mark::Close,
+    Mark::CurlyOpen,
+    Mark::CurlyClose,
+    Mark::Dots,
+];
+
+impl Mark {
+    /// How the mark is written.
+    pub fn spelling(self) -> &'static [u8]
+        ensures { result.now ≡ spelling self }
+    {
+        match self {
+            Mark::Form => b"form",
+            Mark::Nbt => b"nbt",
+            Mark::Json => b"json",
+            Mark::Version => b"version",
+            Mark::Missing => b"missing",
+            Mark::Schema => b"schema",
+            Mark::Follows => b"follows",
+            Mark::Type => b"type",
+            Mark::Root => b"root",
+            Mark::Fix => b"fix",
+            Mark::NewType => b"newtype",
+            Mark::DropType => b"droptype",
+            Mark::Deep => b"deep",
+            Mark::Each => b"each",
+            Mark::Left => b"left",
+            Mark::Right => b"right",
+            Mark::Case => b"case",
+            Mark::Nop => b"nop",
+            Mark::All => b"all",
+            Mark::Everywhere => b"everywhere",
+            Mark::On => b"on",
+            Mark::At => b"at",
+            Mark::Seq => b"seq",
+            Mark::OrElse => b"orelse",
+            Mark::In => b"in",
+            Mark::Rename => b"rename",
+            Mark::Drop => b"drop",
+            Mark::Add => b"add",
+            Mark::Learn => b"learn",
+            Mark::Forget => b"forget",
+            Mark::Default => b"default",
+            Mark::MayBe => b"maybe",
+            Mark::Map => b"map",
+            Mark::Nest => b"nest",
+            Mark::Unnest => b"unnest",
+            Mark::Wrap => b"wrap",
+            Mark::Unify => b"unify",
+            Mark::Retag => b"retag",
+            Mark::AddCase => b"addcase",
+            Mark::Or => b"or",
+            Mark::Any => b"any",
+            Mark::List => b"list",
+            Mark::Choice => b"choice",
+            Mark::Byte => b"byte",
+            Mark::Short => b"short",
+            Mark::Int => b"int",
+            Mark::Long => b"long",
+            Mark::Float => b"float",
+            Mark::Double => b"double",
+            Mark::Text => b"text",
+            Mark::Bytes => b"bytes",
+            Mark::Ints => b"ints",
+            Mark::Longs => b"longs",
+            Mark::Null => b"null",
+            Mark::Bool => b"bool",
+            Mark::Whole => b"whole",
+            Mark::Bits => b"bits",
+            Mark::True => b"true",
+            Mark::False => b"false",
+            Mark::Empty => b"empty",
+            Mark::Const => b"const",
+            Mark::Plus => b"plus",
+            Mark::Times => b"times",
+            Mark::Clamp => b"clamp",
+            Mark::To => b"to",
+            Mark::ToText => b"totext",
+            Mark::OfText => b"oftext",
+            Mark::Table => b"table",
+            Mark::Prefix => b"prefix",
+            Mark::Strip => b"strip",
+            Mark::Lower => b"lower",
+            Mark::Equals => b"=",
+            Mark::Colon => b":",
+            Mark::Comma => b",",
+            Mark::Question => b"?",
+            Mark::Open => b"(",
+            Mark::Close => b")",
+            Mark::CurlyOpen => b"{",
+            Mark::CurlyClose => b"}",
+            Mark::Dots => b"..",
+        }
+    }
+
+    /// The mark that is written so.
+    pub fn of_spelling(word: &[u8]) -> Option<Mark>
+        ensures { MatchOption result ((m : declared.Mark) → word.now ≢ spelling m) (λ m. word.now ≡ spelling m) }
+    {
+        for mark in MARKS {
+            if mark.spelling() == word {
+                return Some(mark);
+            }
+        }
+        None
+    }
+
+    /// Whether it is this mark.
+    pub fn is(self, other: Mark) -> bool
+        ensures { IsTrue result ↔ (self ≡ other) }
+    {
+        self == other
+    }
 }

@@ -1,3 +1,4 @@
+//! Tokens.
 use crate::Mark;
 
 /// A token of a chain text. Names and texts are slices of the source; a text is what stands between the quotation marks.

@@ -1,8 +1,8 @@
 use Rattle.std.proofs.Common.{◌≡◌, ◌==◌, length, true, false, rules}
 use Rattle.std.proofs.lemmas.Result.{err_from_is_err_and}
 use Rattle.mig_token.specs.Token.{toks}
-use Rattle.mig_parse.specs.declared.error.ParseError.TheVariants.{Wrong}
-use Rattle.mig_parse.specs.DeclView.{decl_of}
+use Rattle.mig_reader.specs.declared.error.ParseError.TheVariants.{Wrong}
+use Rattle.mig_syntax.specs.DeclView.{decl_of}
 use Rattle.mig_parse.proofs.DeclarationLaws.{not_wrong, same_declaration, all_read, none_left, some_left}
 use Rattle.mig_parse.proofs.read_declaration.declaration.Goals as goal
 

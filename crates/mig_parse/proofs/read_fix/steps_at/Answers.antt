@@ -3,8 +3,9 @@ use Rattle.std.proofs.lemmas.List.{map-append}
 use Rattle.std.proofs.lemmas.Result.{err_from_is_err_and}
 use Rattle.mig_token.specs.declared.mark.Mark.TheVariants as M
 use Rattle.mig_token.specs.Token.{toks}
-use Rattle.mig_parse.specs.DeclView.{step_of}
-use Rattle.mig_parse.specs.Reading.{begins, steps_at}
+use Rattle.mig_syntax.specs.DeclView.{step_of}
+use Rattle.mig_reader.specs.Reading.{begins}
+use Rattle.mig_parse.specs.Reading.{steps_at}
 use Rattle.mig_parse.proofs.FixLaws.{no_step, last_step, further_step, no_more_step}
 use Rattle.mig_parse.proofs.read_fix.steps_at.Goals as goal
 

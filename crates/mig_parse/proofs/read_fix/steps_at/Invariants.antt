@@ -1,7 +1,8 @@
 use Rattle.std.proofs.Common.{◌≡◌, ◌-◌, map, length}
 use Rattle.mig_token.specs.Token.{toks}
-use Rattle.mig_parse.specs.DeclView.{step_of}
-use Rattle.mig_parse.specs.Reading.{steps_at, after_items}
+use Rattle.mig_syntax.specs.DeclView.{step_of}
+use Rattle.mig_reader.specs.Reading.{after_items}
+use Rattle.mig_parse.specs.Reading.{steps_at}
 use Rattle.mig_parse.proofs.read_fix.steps_at.Given as goal
 
 abbrev pub invariant-loop : goal.invariant-loop

@@ -2,7 +2,7 @@ use Rattle.std.proofs.Common.{◌≡◌, ◌≤◌, ℕ, pos, Err, subst, to_z, 
 use Rattle.std.specs.Int.{w128}
 use Rattle.std.proofs.lemmas.Result.{err_from_is_err_and}
 use Rattle.mig_model.specs.Version.{last_version}
-use Rattle.mig_parse.specs.DeclView.{decl_of}
+use Rattle.mig_syntax.specs.DeclView.{decl_of}
 use Rattle.mig_small.specs.Pieces.{Finds, IsDeclared, AreEdits, IsFix}
 use Rattle.mig_small.specs.Views.{edits_of}
 use Rattle.mig_small.specs.declared.edits.Edits.{Edits}
@@ -39,4 +39,4 @@ returns-in-Some c =
     (subst (λ z. (n : ℕ) → z ≡ pos n → n ≤ last_version → ⊥) is c.in-None-version_number.ensures)
 
 pub returns : goal.returns
-returns c = fix_other c.args.piece.now (decl_of c.in_ok-declared.field-0) c.in_ok-declared.ensures c.args.form c.in-None.ensures
+returns c = fix_other c.args.piece.now (decl_of c.in_ok-declared.field-0) c.in_ok-declared.ensures c.args.form (λ z rs. c.in-None.ensures (z, rs))

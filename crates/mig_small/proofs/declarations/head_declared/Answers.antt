@@ -2,8 +2,8 @@ use Rattle.std.proofs.Common.{◌≡◌, ◌≤◌, ℕ, pos, false, subst, to_z
 use Rattle.std.specs.Int.{w128}
 use Rattle.mig_model.specs.Version.{last_version}
 use Rattle.std.proofs.lemmas.Result.{err_from_is_err_and}
-use Rattle.mig_parse.specs.DeclSyntax as decl
-use Rattle.mig_parse.specs.DeclView.{decl_of}
+use Rattle.mig_syntax.specs.DeclSyntax as decl
+use Rattle.mig_syntax.specs.DeclView.{decl_of}
 use Rattle.mig_small.specs.Pieces.{IsDeclared, IsHead}
 use Rattle.mig_small.proofs.Found.{failed}
 use Rattle.mig_small.proofs.Declared.{head_found, head_outside, head_other}

@@ -1,6 +1,6 @@
 use Rattle.std.proofs.Common.{ℕ, List, map, Vec, Global, Err, subst}
 use Rattle.std.proofs.lemmas.Result.{err_from_is_err_and}
-use Rattle.mig_parse.specs.DeclView.{decl_of}
+use Rattle.mig_syntax.specs.DeclView.{decl_of}
 use Rattle.mig_small.specs.SmallText.{MakeRecord}
 use Rattle.mig_small.specs.Pieces.{Finds, IsDeclared, IsRecord}
 use Rattle.mig_small.specs.View.{field_of}
@@ -29,4 +29,4 @@ returns-in_ok-made-in-Some c =
     (subst (λ fs. One (MakeRecord c.args.form fs) (map field_of c.in_ok-made-in-Some.made.items)) c.as_slice.ensures c.in_ok-made-in-Some.ensures)
 
 pub returns-in-None : goal.returns-in-None
-returns-in-None c = record_other c.args.piece.now (decl_of c.in_ok-declared.field-0) c.in_ok-declared.ensures c.args.form c.in-None.ensures
+returns-in-None c = record_other c.args.piece.now (decl_of c.in_ok-declared.field-0) c.in_ok-declared.ensures c.args.form (λ n fs. c.in-None.ensures (n, fs))

@@ -1,6 +1,6 @@
 use Rattle.std.proofs.lemmas.Result.{err_from_is_err_and}
-use Rattle.mig_parse.specs.DeclSyntax as decl
-use Rattle.mig_parse.specs.DeclView.{decl_of}
+use Rattle.mig_syntax.specs.DeclSyntax as decl
+use Rattle.mig_syntax.specs.DeclView.{decl_of}
 use Rattle.mig_small.specs.Pieces.{IsDeclared}
 use Rattle.mig_small.proofs.Found.{failed, picked, not_picked}
 use Rattle.mig_small.proofs.declarations.root_declared.Goals as goal

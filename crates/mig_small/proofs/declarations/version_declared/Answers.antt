@@ -1,6 +1,6 @@
 use Rattle.std.proofs.lemmas.Result.{err_from_is_err_and}
-use Rattle.mig_parse.specs.DeclSyntax as decl
-use Rattle.mig_parse.specs.DeclView.{decl_of}
+use Rattle.mig_syntax.specs.DeclSyntax as decl
+use Rattle.mig_syntax.specs.DeclView.{decl_of}
 use Rattle.mig_small.specs.SmallText.{IsMissing}
 use Rattle.mig_small.specs.Pieces.{IsDeclared, IsVersion}
 use Rattle.mig_small.proofs.Found.{failed}
@@ -23,4 +23,4 @@ pub returns-in_ok-missing_number-in-Some : goal.returns-in_ok-missing_number-in-
 returns-in_ok-missing_number-in-Some c = version_found c.args.piece.now (decl_of c.in_ok-declared.field-0) c.in_ok-declared.ensures c.in-Some.name c.in-Some.missing c.in_ok-missing_number-in-Some.field-0 c.in-Some.ensures c.in_ok-missing_number-in-Some.ensures
 
 pub returns-in-None : goal.returns-in-None
-returns-in-None c = version_other c.args.piece.now (decl_of c.in_ok-declared.field-0) c.in_ok-declared.ensures c.in-None.ensures
+returns-in-None c = version_other c.args.piece.now (decl_of c.in_ok-declared.field-0) c.in_ok-declared.ensures (λ s n. c.in-None.ensures (s, n))

@@ -1,7 +1,7 @@
 use Rattle.std.proofs.Common.{ℕ, List, map}
 use Rattle.mig_leaf.specs.declared.constant.Const.{Const}
 use Rattle.std.proofs.lemmas.Result.{err_from_is_err_and}
-use Rattle.mig_parse.specs.RuleView.{rule_of}
+use Rattle.mig_syntax.specs.RuleView.{rule_of}
 use Rattle.mig_leaf.specs.View.{const_of}
 use Rattle.mig_small.specs.Pieces.{IsAdd, AreEdits}
 use Rattle.mig_small.specs.Views.{edits_of}

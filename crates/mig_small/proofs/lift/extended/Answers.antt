@@ -1,11 +1,14 @@
 use Rattle.std.proofs.Common.{◌≡◌, ◌∙◌, sym, ap, subst, List, map, Ok, Err, Some, rules, arith}
 use Rattle.std.specs.List.{insert}
+use Rattle.std.proofs.lemmas.Cmp.{nat_list_cmp_total}
+use Rattle.std.proofs.lemmas.Map.Lookups.{exact_bytes}
 use Rattle.std_collections.specs.Layout.BTreeMap.{seek}
 use Rattle.mig_model.specs.Names.{by_bytes}
+use Rattle.mig_model.proofs.Searches.{inserted_sorted}
 use Rattle.mig_small.specs.Small.{Ascend}
 use Rattle.mig_small.specs.View.{field_of}
 use Rattle.mig_small.specs.declared.field.SmallField.{SmallField}
-use Rattle.mig_small.proofs.Places.{extended_not, extended_is, extended_ascends}
+use Rattle.mig_small.proofs.Places.{extended_not, extended_is}
 use Rattle.mig_small.proofs.lift.extended.Goals as goal
 
 pub returns-in-Ok-clause-fields : goal.returns-in-Ok-clause-fields
@@ -27,4 +30,4 @@ returns-in_ok-insert-in-Err-clause-ascend c =
     let e : SmallField = record { name = c.args.name; kind = c.args.kind } in
     let at : seek (by_bytes c.args.name) (map field_of xs) ≡ Err c.in-Err.at = grind arith in
     let is : c.insert.new.self.items ≡ insert xs c.in-Err.at e = search rules in
-    subst (λ (l : List SmallField). Ascend (map field_of l)) (sym is) (extended_ascends xs c.in-Err.at e c.requires at)
+    subst (λ (l : List SmallField). Ascend (map field_of l)) (sym is) (inserted_sorted exact_bytes field_of nat_list_cmp_total xs c.in-Err.at e c.requires at)

@@ -1,8 +1,8 @@
 use Rattle.std.proofs.Common.{◌≡◌, ◌+◌, ◌∷◌, ◌++◌, [], List, map, take, sym, subst, ap, ◌∙◌, Vec, Global}
 use Rattle.std.proofs.lemmas.List.{take_more, map-append, take_all}
 use Rattle.std.proofs.lemmas.Result.{err_from_is_err_and}
-use Rattle.mig_parse.specs.TemplateView as syntax
-use Rattle.mig_parse.specs.declared.template.FieldText.{FieldText}
+use Rattle.mig_syntax.specs.TemplateView as syntax
+use Rattle.mig_syntax.specs.declared.template.FieldText.{FieldText}
 use Rattle.mig_small.specs.SmallText.{AreLeaves}
 use Rattle.mig_small.specs.Pieces.{IsLeafField}
 use Rattle.mig_small.specs.View.{field_of}

@@ -1,5 +1,5 @@
 use Rattle.std.proofs.Common.{map, take}
-use Rattle.mig_parse.specs.TemplateView as syntax
+use Rattle.mig_syntax.specs.TemplateView as syntax
 use Rattle.mig_small.specs.SmallText.{AreLeaves}
 use Rattle.mig_small.specs.View.{field_of}
 use Rattle.mig_small.proofs.record.leaf_fields.Given as goal

@@ -2,7 +2,7 @@ use Rattle.std.proofs.Common.{◌≡◌, ℕ, List, map, true, Vec, Global, sym,
 use Rattle.std.proofs.lemmas.Result.{err_from_is_err_and}
 use Rattle.mig_model.specs.Family.{IsFormed}
 use Rattle.mig_small.specs.Pieces.{IsHead, IsRecord, family_of}
-use Rattle.mig_small.specs.Nine.{AreSchema}
+use Rattle.mig_small.specs.ChainPieces.{AreSchema}
 use Rattle.mig_small.specs.View.{field_of}
 use Rattle.mig_small.specs.Views.{schema_of, schema_pieces}
 use Rattle.mig_small.specs.declared.field.SmallField.{SmallField}

@@ -1,0 +1,2 @@
+pub mod FunctionRead
+pub mod FunctionSound

@@ -1,0 +1,2 @@
+pub mod LeafRead
+pub mod LeafSound

@@ -1,0 +1,3 @@
+pub mod RuleLoop
+pub mod RuleRead
+pub mod RuleSound

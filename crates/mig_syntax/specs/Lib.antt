@@ -1,0 +1,10 @@
+pub mod TemplateSyntax
+pub mod TemplateCode
+pub mod TemplateView
+pub mod TemplateFalls
+pub mod RuleSyntax
+pub mod RuleCode
+pub mod RuleView
+pub mod RuleFalls
+pub mod DeclSyntax
+pub mod DeclView

@@ -12,12 +12,15 @@ use Rattle.mig_template.specs.Kept.{IsKept, FieldsKept, ChoiceKept, CasesKept}
 use Rattle.mig_template.specs.Parts.{is_among, has_twice_in, cases_in, is_twice_named}
 use Rattle.mig_value.specs.Typed.{Typed, list, left, right, rec, Items, no_item, item, items, Slots, Tag, out_slots}
 use Rattle.mig_value.specs.Fit.{Fits, FieldsFit, CasesFit, EachItem, EachSlot, TagFits, has_case_musts, has_cased_musts, ChoiceFits}
-use Rattle.mig_optic.specs.declared.side.Side.TheVariants.{Left, Right}
-use Rattle.mig_optic.specs.Path.{Path, case_of, each, side, foci, Takes}
+use Rattle.mig_path.specs.declared.side.Side.TheVariants.{Left, Right}
+use Rattle.mig_path.specs.Path.{Path, case_of, each, side, foci, Takes}
 use Rattle.mig_finder.specs.Places.{Place, behind, to_field, places, field_places, choice_places, case_places}
 use Rattle.mig_finder.specs.Law.{Finds, PlacesFit}
-use Rattle.mig_finder.proofs.Names.{both_so, neither_so, so_by_second, equal_names, apart_from_first, first_once}
-use Rattle.mig_finder.proofs.Records.{names, literals, EachField, FieldFinds, finds_common, finds_cased, weaker_slots, name_of_field, name_of_choice}
+use Rattle.mig_finder.proofs.Records.{names, literals, EachField, FieldFinds, finds_common, finds_cased, name_of_field, name_of_choice}
+use Rattle.mig_model.proofs.Bools.{split_and, split_or, right_or}
+use Rattle.mig_model.proofs.SameNames.{same_name_is}
+use Rattle.mig_template.proofs.Names.{apart_from_first, first_once}
+use Rattle.mig_value.proofs.Views.{weaker_slots}
 
 -- ---- lists
 all_append : {A : Type 0} (Q : A → Type 0) (xs ys : List A) → AllByRecursion Q xs → AllByRecursion Q ys → AllByRecursion Q (xs ++ ys)
@@ -39,13 +42,13 @@ all_items Q R f (item v vs) h = (f v h.0, all_items Q R f vs h.1)
 pub distinct_fields : (fs : Fields) (c : Choice) → is_twice_named (field_list fs) (cases_in c) ≡ false → has_twice (names fs) ≡ false
 distinct_fields fs no_choice d = d
 distinct_fields fs (choice tg cs k) d =
-    let first = neither_so (has_twice (tg ∷ names fs)) (list_any (has_twice_in (tg ∷ names fs)) (case_list cs) || has_twice (literals cs)) d in
-    (neither_so (is_among (names fs) tg) (has_twice (names fs)) first.0).1
+    let first = split_or (has_twice (tg ∷ names fs)) (list_any (has_twice_in (tg ∷ names fs)) (case_list cs) || has_twice (literals cs)) d in
+    (split_or (is_among (names fs) tg) (has_twice (names fs)) first.0).1
 
 pub distinct_cases : (fs : Fields) (tg : List ℕ) (cs : Cases) (k : Bool) → is_twice_named (field_list fs) (cases_in (choice tg cs k)) ≡ false → (list_any (has_twice_in (tg ∷ names fs)) (case_list cs) ≡ false) × (has_twice (literals cs) ≡ false)
 distinct_cases fs tg cs k d =
-    let first = neither_so (has_twice (tg ∷ names fs)) (list_any (has_twice_in (tg ∷ names fs)) (case_list cs) || has_twice (literals cs)) d in
-    neither_so (list_any (has_twice_in (tg ∷ names fs)) (case_list cs)) (has_twice (literals cs)) first.1
+    let first = split_or (has_twice (tg ∷ names fs)) (list_any (has_twice_in (tg ∷ names fs)) (case_list cs) || has_twice (literals cs)) d in
+    split_or (list_any (has_twice_in (tg ∷ names fs)) (case_list cs)) (has_twice (literals cs)) first.1
 
 module _ (U : Typed → Type 0) (P : List ℕ → Typed → Type 0) (x : List ℕ) where
   abbrev AllFind : Typed → List Place → Type 0
@@ -84,13 +87,13 @@ module _ (U : Typed → Type 0) (P : List ℕ → Typed → Type 0) (x : List �
     other_cases : (cs : Cases) → is_among (literals cs) t.1 ≡ false → AllFind whole (case_places x cs)
     other_cases no_case h = tt
     other_cases (case m ds cs) h =
-        let both = neither_so (same_name t.1 m) (is_among (literals cs) t.1) h in
+        let both = split_or (same_name t.1 m) (is_among (literals cs) t.1) h in
         all_append (Finds U P whole) (behind (case_of m) (field_places x ds)) (case_places x cs) (case_fit m ds false (flips m t.1 ∙ both.0) (λ e. absurd cc)) (other_cases cs both.1)
 
     -- the first case and the others
     cases_fit : (m : List ℕ) (ds : Fields) (cs : Cases) (b : Bool) → same_name t.1 m ≡ b → has_twice (m ∷ literals cs) ≡ false → (EachSlot (FieldsFit U P ds) zs → has_musts ds (out_slots zs) ≡ true → AllFind whole (field_places x ds)) → (EachSlot (CasesFit U P t.1 cs) zs → has_case_musts t.1 cs (out_slots zs) ≡ true → AllFind whole (case_places x cs)) → EachSlot (λ n w. MatchBool b (FieldsFit U P ds n w) (CasesFit U P t.1 cs n w)) zs → (if b then has_musts ds (out_slots zs) else has_case_musts t.1 cs (out_slots zs)) ≡ true → AllFind whole (case_places x (case m ds cs))
     cases_fit m ds cs true e d f g h k =
-        let none : is_among (literals cs) t.1 ≡ false = ap (is_among (literals cs)) (equal_names t.1 m e) ∙ (neither_so (is_among (literals cs) m) (has_twice (literals cs)) d).0 in
+        let none : is_among (literals cs) t.1 ≡ false = ap (is_among (literals cs)) (same_name_is t.1 m e) ∙ (split_or (is_among (literals cs) m) (has_twice (literals cs)) d).0 in
         all_append (Finds U P whole) (behind (case_of m) (field_places x ds)) (case_places x cs) (case_fit m ds true (flips m t.1 ∙ e) (λ i. f h k)) (other_cases cs none)
     cases_fit m ds cs false e d f g h k =
         all_append (Finds U P whole) (behind (case_of m) (field_places x ds)) (case_places x cs) (case_fit m ds false (flips m t.1 ∙ e) (λ i. absurd cc)) (g h k)
@@ -108,7 +111,7 @@ module _ (U : Typed → Type 0) (P : List ℕ → Typed → Type 0) (x : List �
         all_append (Finds U P (right v)) (behind (side Left) (places x V)) (behind (side Right) (places x W)) (behind_fit (side Left) (right v) (places x V) tt tt) (behind_fit (side Right) (right v) (places x W) tt (fit W v kept.1 h, tt))
     fit (template.sum V W) v kept h = absurd h
     fit (template.rec fs c r) (rec ss tag zs rs) kept h =
-        let musts = both_so (has_musts fs (out_slots ss)) (has_cased_musts c tag (out_slots zs)) h.1 in
+        let musts = split_and (has_musts fs (out_slots ss)) (has_cased_musts c tag (out_slots zs)) h.1 in
         fit_choice c fs ss tag zs rs kept.1.1 kept.0.distinct h.0 musts.1 h.2 h.3
         (λ apart. fit_fields fs (rec ss tag zs rs) kept.1.0 (finds_common U P ss tag zs rs fs (distinct_fields fs c kept.0.distinct) musts.0 h.2 apart))
     fit (template.rec fs c r) v kept h = absurd h
@@ -127,17 +130,17 @@ module _ (U : Typed → Type 0) (P : List ℕ → Typed → Type 0) (x : List �
         let distinct = distinct_cases fs tg cs k d in
         all_append (Finds U P (rec ss (Some t) zs rs)) (field_places x fs) (case_places x cs)
         (f (weaker_slots (CasesFit U P t.1 cs) (λ n w. is_among (names fs) n ≡ false) (λ n w k. name_of_choice U P fs tg cs t n w distinct.0 k) zs h))
-        (fit_cases cs (tg ∷ names fs) ss t zs rs kept distinct.0 distinct.1 (weaker_slots (FieldsFit U P fs) (λ n w. is_among (tg ∷ names fs) n ≡ true) (λ n w k. so_by_second (same_name n tg) (is_among (names fs) n) (name_of_field U P fs n w k)) ss e) h m)
+        (fit_cases cs (tg ∷ names fs) ss t zs rs kept distinct.0 distinct.1 (weaker_slots (FieldsFit U P fs) (λ n w. is_among (tg ∷ names fs) n ≡ true) (λ n w k. right_or (same_name n tg) (is_among (names fs) n) (name_of_field U P fs n w k)) ss e) h m)
 
     fit_cases : (cs : Cases) (others : List (List ℕ)) (ss : Slots) (t : Tag) (zs rs : Slots) → CasesKept cs → list_any (has_twice_in others) (case_list cs) ≡ false → has_twice (literals cs) ≡ false → EachSlot (λ n w. is_among others n ≡ true) ss → EachSlot (CasesFit U P t.1 cs) zs → has_case_musts t.1 cs (out_slots zs) ≡ true → AllFind (rec ss (Some t) zs rs) (case_places x cs)
     fit_cases no_case others ss t zs rs kept d l e h m = tt
     fit_cases (case l ds cs) others ss t zs rs kept d once e h m =
-        let both = neither_so (has_twice (names ds ++ others)) (list_any (has_twice_in others) (case_list cs)) d in
+        let both = split_or (has_twice (names ds ++ others)) (list_any (has_twice_in others) (case_list cs)) d in
         cases_fit ss t zs rs l ds cs (same_name t.1 l) refl once
         (λ a b. fit_fields ds (rec ss (Some t) zs rs) kept.0
         (finds_cased U P ss (Some t) zs rs ds (first_once (names ds) others both.0) b a
         (weaker_slots (λ n w. is_among others n ≡ true) (λ n w. is_among (names ds) n ≡ false) (λ n w k. apart_from_first (names ds) others n both.0 k) ss e)))
-        (λ a b. fit_cases cs others ss t zs rs kept.1 both.1 (neither_so (is_among (literals cs) l) (has_twice (literals cs)) once).1 e a b) h m
+        (λ a b. fit_cases cs others ss t zs rs kept.1 both.1 (split_or (is_among (literals cs) l) (has_twice (literals cs)) once).1 e a b) h m
 
 -- each place's optic takes every value of the template, and finds values of the place's template
 pub places_fit : (U : Typed → Type 0) (P : List ℕ → Typed → Type 0) → PlacesFit U P

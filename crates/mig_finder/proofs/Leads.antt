@@ -23,16 +23,21 @@ use Rattle.mig_value.specs.Typed.{Typed, list, left, right, rec, Items, no_item,
 use Rattle.mig_value.specs.Kept as value
 use Rattle.mig_value.specs.Kept.{ItemsKept, SlotsKept}
 use Rattle.mig_value.specs.Fit.{Fits, FieldsFit, ChoiceFits, CasesFit, IsUnknown, EachItem, EachSlot, TagFits, has_case_musts, has_cased_musts, is_cased, is_field_of_case}
-use Rattle.mig_optic.specs.declared.side.Side.TheVariants.{Left, Right}
-use Rattle.mig_optic.specs.Fields.{value_in}
-use Rattle.mig_optic.specs.Path.{Path, may_field, case_of, each, side, foci, over}
+use Rattle.mig_path.specs.declared.side.Side.TheVariants.{Left, Right}
+use Rattle.mig_path.specs.Fields.{value_in}
+use Rattle.mig_path.specs.Path.{Path, may_field, case_of, each, side, foci, over}
 use Rattle.mig_finder.specs.Places.{Place, behind, to_field, places, field_places, choice_places, case_places}
 use Rattle.mig_finder.specs.Ways.{Step, Way, name, tagged, item as each_item, kinds, at_place, after, ways, field_ways, choice_ways, case_ways}
 use Rattle.mig_finder.specs.Law.{EachTwo, IsWayOf, PlacesLead}
-use Rattle.mig_finder.proofs.Names.{both_so, neither_so, so_by_first, so_by_second, equal_names, name_itself, other_name, apart_from_first, first_once}
-use Rattle.mig_finder.proofs.Records.{names, literals, EachField, by_name, from_three, FieldFinds, finds_common, finds_cased, weaker_slots, name_of_field, name_of_choice}
+use Rattle.mig_finder.proofs.Records.{names, literals, EachField, by_name, from_three, FieldFinds, finds_common, finds_cased, name_of_field, name_of_choice}
 use Rattle.mig_finder.proofs.Laws.{all_weaker, distinct_fields, distinct_cases}
 use Rattle.mig_finder.proofs.Steps.{Does, Free, Once, does_each, does_left, does_right, not_left, not_right, kind_there, does_common, does_cased, does_case}
+use Rattle.mig_finder.proofs.Names.{other_name}
+use Rattle.mig_model.proofs.Bools.{split_and, split_or, left_or, right_or}
+use Rattle.mig_model.proofs.SameNames.{same_name_is, same_name_itself}
+use Rattle.mig_template.proofs.Names.{apart_from_first, first_once}
+use Rattle.std.proofs.lemmas.Bool.{false_from_ne_true}
+use Rattle.mig_value.proofs.Views.{weaker_slots}
 
 -- ---- lists
 two_append : {A B : Type 0} (R : A → B → Type 0) (xs ys : List A) (us vs : List B) → EachTwo R xs us → EachTwo R ys vs → EachTwo R (xs ++ ys) (us ++ vs)
@@ -48,16 +53,16 @@ all_both Q R (x ∷ xs) h k = ((h.0, k.0), all_both Q R xs h.1 k.1)
 -- ---- names of slots
 free_of : (n : List ℕ) (ss : Slots) → list_any (same_name n) (keys_of (slots ss)) ≡ false → Free n ss
 free_of n no_slot h = tt
-free_of n (slot m v ss) h = let both = neither_so (same_name n m) (list_any (same_name n) (keys_of (slots ss))) h in (both.0, free_of n ss both.1)
+free_of n (slot m v ss) h = let both = split_or (same_name n m) (list_any (same_name n) (keys_of (slots ss))) h in (both.0, free_of n ss both.1)
 
 once_of : (y : List ℕ) (ss : Slots) → has_twice (keys_of (slots ss)) ≡ false → Once y ss
 once_of y no_slot d = tt
 once_of y (slot n v ss) d =
-    let both = neither_so (list_any (same_name n) (keys_of (slots ss))) (has_twice (keys_of (slots ss))) d in
+    let both = split_or (list_any (same_name n) (keys_of (slots ss))) (has_twice (keys_of (slots ss))) d in
     by (same_name y n) refl both.0 (once_of y ss both.1)
   where
     by : (b : Bool) → same_name y n ≡ b → list_any (same_name n) (keys_of (slots ss)) ≡ false → Once y ss → MatchBool b (Free y ss) (Once y ss)
-    by true i none rest = subst (λ (m : List ℕ). Free m ss) (sym (equal_names y n i)) (free_of n ss none)
+    by true i none rest = subst (λ (m : List ℕ). Free m ss) (sym (same_name_is y n i)) (free_of n ss none)
     by false i none rest = rest
 
 free_by : (y : List ℕ) (ns : List (List ℕ)) → is_among ns y ≡ true → (qs : Slots) → EachSlot (λ n w. is_among ns n ≡ false) qs → Free y qs
@@ -99,15 +104,11 @@ fit_items Q (item v vs) h = (h.0, fit_items Q vs h.1)
 some_is : (t s : Tag) → Some t ≡ Some s → t ≡ s
 some_is t s e = cc
 
-never : (b : Bool) → (b ≡ true → ⊥) → b ≡ false
-never true h = absurd (h refl)
-never false h = refl
-
 -- the tag is no common field
 tag_apart : (fs : Fields) (tg : List ℕ) (cs : Cases) (k : Bool) → is_twice_named (field_list fs) (cases_in (choice tg cs k)) ≡ false → is_among (names fs) tg ≡ false
 tag_apart fs tg cs k d =
-    let first = neither_so (has_twice (tg ∷ names fs)) (list_any (has_twice_in (tg ∷ names fs)) (case_list cs) || has_twice (literals cs)) d in
-    (neither_so (is_among (names fs) tg) (has_twice (names fs)) first.0).0
+    let first = split_or (has_twice (tg ∷ names fs)) (list_any (has_twice_in (tg ∷ names fs)) (case_list cs) || has_twice (literals cs)) d in
+    (split_or (is_among (names fs) tg) (has_twice (names fs)) first.0).0
 
 module _ (form : Form) (U : Typed → Type 0) (P : List ℕ → Typed → Type 0) (x : List ℕ) where
   abbrev AllLead : Typed → List Place → List Way → Type 0
@@ -230,13 +231,13 @@ module _ (form : Form) (U : Typed → Type 0) (P : List ℕ → Typed → Type 0
     other_cases : (cs : Cases) → is_among (literals cs) t.1 ≡ false → AllLead chosen (case_places x cs) (case_ways form x tg cs)
     other_cases no_case h = tt
     other_cases (case m ds cs) h =
-        let both = neither_so (same_name t.1 m) (is_among (literals cs) t.1) h in
+        let both = split_or (same_name t.1 m) (is_among (literals cs) t.1) h in
         both_cases m ds cs (case_lead m ds false (flips m t.1 ∙ both.0) (λ e. absurd cc)) (other_cases cs both.1)
 
     -- the first case and the others
     cases_lead : (m : List ℕ) (ds : Fields) (cs : Cases) (b : Bool) → same_name t.1 m ≡ b → has_twice (m ∷ literals cs) ≡ false → (b ≡ true → AllLead chosen (field_places x ds) (field_ways form x ds)) → (b ≡ false → AllLead chosen (case_places x cs) (case_ways form x tg cs)) → AllLead chosen (case_places x (case m ds cs)) (case_ways form x tg (case m ds cs))
     cases_lead m ds cs true e d f g =
-        let none : is_among (literals cs) t.1 ≡ false = ap (is_among (literals cs)) (equal_names t.1 m e) ∙ (neither_so (is_among (literals cs) m) (has_twice (literals cs)) d).0 in
+        let none : is_among (literals cs) t.1 ≡ false = ap (is_among (literals cs)) (same_name_is t.1 m e) ∙ (split_or (is_among (literals cs) m) (has_twice (literals cs)) d).0 in
         both_cases m ds cs (case_lead m ds true (flips m t.1 ∙ e) f) (other_cases cs none)
     cases_lead m ds cs false e d f g = both_cases m ds cs (case_lead m ds false (flips m t.1 ∙ e) (λ i. absurd cc)) (g refl)
 
@@ -279,15 +280,15 @@ module _ (form : Form) (U : Typed → Type 0) (P : List ℕ → Typed → Type 0
         lead_sum V W (left v) (behind_lead (side Left) (kinds form V) (left v) (does_left form V v there) (places x V) (ways form x V) (paired V) (lead V v kept.0 apart.1 own h, tt)) (behind_lead (side Right) (kinds form W) (left v) (not_right form W v elsewhere) (places x W) (ways form x W) (paired W) tt)
     lead (template.sum V W) (right v) kept apart own h =
         let there : has_kind form W (kind_of (out v)) ≡ true = kind_there form U P W v apart.0.right h in
-        let elsewhere : has_kind form V (kind_of (out v)) ≡ false = never (has_kind form V (kind_of (out v))) (λ e. true≢false (sym there ∙ apart.0.apart (kind_of (out v)) e)) in
+        let elsewhere : has_kind form V (kind_of (out v)) ≡ false = false_from_ne_true (has_kind form V (kind_of (out v))) (λ e. true≢false (sym there ∙ apart.0.apart (kind_of (out v)) e)) in
         lead_sum V W (right v) (behind_lead (side Left) (kinds form V) (right v) (not_left form V v elsewhere) (places x V) (ways form x V) (paired V) tt) (behind_lead (side Right) (kinds form W) (right v) (does_right form W v there) (places x W) (ways form x W) (paired W) (lead W v kept.1 apart.2 own h, tt))
     lead (template.sum V W) v kept apart own h = absurd h
     lead (template.rec fs c r) (rec ss tag zs rs) kept apart own h =
-        let musts = both_so (has_musts fs (out_slots ss)) (has_cased_musts c tag (out_slots zs)) h.1 in
+        let musts = split_and (has_musts fs (out_slots ss)) (has_cased_musts c tag (out_slots zs)) h.1 in
         lead_choice c fs r ss tag zs rs kept.1.1 apart.1 own kept.0.distinct h.0 musts.1 h.2 h.3 h.4
         (λ cased tagless. lead_fields fs (rec ss tag zs rs) kept.1.0 apart.0
         (common_leads ss tag zs rs own fs (distinct_fields fs c kept.0.distinct) musts.0 h.2 cased
-        (weaker_slots (IsUnknown U fs c tag r) (λ n w. is_among (names fs) n ≡ false) (λ n w u. sym (field_among n fs) ∙ (neither_so (is_field n fs) (is_cased n c tag) u.0).0) rs h.4) tagless))
+        (weaker_slots (IsUnknown U fs c tag r) (λ n w. is_among (names fs) n ≡ false) (λ n w u. sym (field_among n fs) ∙ (split_or (is_field n fs) (is_cased n c tag) u.0).0) rs h.4) tagless))
     lead (template.rec fs c r) v kept apart own h = absurd h
 
     lead_fields : (fs : Fields) (v : Typed) → FieldsKept fs → FieldsApart form fs → EachField (FieldLeads v) fs → AllLead v (field_places x fs) (field_ways form x fs)
@@ -309,14 +310,14 @@ module _ (form : Form) (U : Typed → Type 0) (P : List ℕ → Typed → Type 0
         let does : (l : List ℕ) → Does (case_of l) (tagged tg l) (rec ss (Some t) zs rs) = λ l. subst (λ (n : List ℕ). Does (case_of l) (tagged n l) (rec ss (Some t) zs rs)) tag_fits.0 (does_case l ss t zs rs free) in
         two_append (IsWayOf U P (rec ss (Some t) zs rs)) (field_places x fs) (case_places x cs) (field_ways form x fs) (case_ways form x tg cs)
         (f (weaker_slots (CasesFit U P t.1 cs) (λ n w. is_among (names fs) n ≡ false) (λ n w q. name_of_choice U P fs tg cs t n w distinct.0 q) zs h) no_tag)
-        (lead_cases cs (tg ∷ names fs) ss t zs rs tg does kept apart own (so_by_first (same_name t.0 tg) (is_among (names fs) t.0) (subst (λ (n : List ℕ). same_name t.0 n ≡ true) tag_fits.0 (name_itself t.0))) distinct.0 distinct.1
-        (weaker_slots (FieldsFit U P fs) (λ n w. is_among (tg ∷ names fs) n ≡ true) (λ n w q. so_by_second (same_name n tg) (is_among (names fs) n) (name_of_field U P fs n w q)) ss e) h m
-        (weaker_slots (IsUnknown U fs (choice tg cs k) (Some t) r) (λ n w. is_field_of_case n t.1 cs ≡ false) (λ n w q. (neither_so (same_name n tg) (is_field_of_case n t.1 cs) (neither_so (is_field n fs) (same_name n tg || is_field_of_case n t.1 cs) q.0).1).1) rs u))
+        (lead_cases cs (tg ∷ names fs) ss t zs rs tg does kept apart own (left_or (same_name t.0 tg) (is_among (names fs) t.0) (subst (λ (n : List ℕ). same_name t.0 n ≡ true) tag_fits.0 (same_name_itself t.0))) distinct.0 distinct.1
+        (weaker_slots (FieldsFit U P fs) (λ n w. is_among (tg ∷ names fs) n ≡ true) (λ n w q. right_or (same_name n tg) (is_among (names fs) n) (name_of_field U P fs n w q)) ss e) h m
+        (weaker_slots (IsUnknown U fs (choice tg cs k) (Some t) r) (λ n w. is_field_of_case n t.1 cs ≡ false) (λ n w q. (split_or (same_name n tg) (is_field_of_case n t.1 cs) (split_or (is_field n fs) (same_name n tg || is_field_of_case n t.1 cs) q.0).1).1) rs u))
 
     lead_cases : (cs : Cases) (others : List (List ℕ)) (ss : Slots) (t : Tag) (zs rs : Slots) (tg : List ℕ) → ((m : List ℕ) → Does (case_of m) (tagged tg m) (rec ss (Some t) zs rs)) → CasesKept cs → CasesApart form cs → value.IsKept (rec ss (Some t) zs rs) → is_among others t.0 ≡ true → list_any (has_twice_in others) (case_list cs) ≡ false → has_twice (literals cs) ≡ false → EachSlot (λ n w. is_among others n ≡ true) ss → EachSlot (CasesFit U P t.1 cs) zs → has_case_musts t.1 cs (out_slots zs) ≡ true → EachSlot (λ n w. is_field_of_case n t.1 cs ≡ false) rs → AllLead (rec ss (Some t) zs rs) (case_places x cs) (case_ways form x tg cs)
     lead_cases no_case others ss t zs rs tg does kept apart own among d once e h m u = tt
     lead_cases (case l ds cs) others ss t zs rs tg does kept apart own among d once e h m u =
-        let both = neither_so (has_twice (names ds ++ others)) (list_any (has_twice_in others) (case_list cs)) d in
+        let both = split_or (has_twice (names ds ++ others)) (list_any (has_twice_in others) (case_list cs)) d in
         cases_lead ss t zs rs tg does l ds cs (same_name t.1 l) refl once
         (λ i. lead_fields ds (rec ss (Some t) zs rs) kept.0 apart.0
         (cased_leads ss (Some t) zs rs own ds (first_once (names ds) others both.0) (chosen_bool (same_name t.1 l) (has_musts ds (out_slots zs)) (has_case_musts t.1 cs (out_slots zs)) i m)
@@ -324,7 +325,7 @@ module _ (form : Form) (U : Typed → Type 0) (P : List ℕ → Typed → Type 0
         (weaker_slots (λ n w. is_among others n ≡ true) (λ n w. is_among (names ds) n ≡ false) (λ n w q. apart_from_first (names ds) others n both.0 q) ss e)
         (weaker_slots (λ n w. (if same_name t.1 l then is_field n ds else is_field_of_case n t.1 cs) ≡ false) (λ n w. is_among (names ds) n ≡ false) (λ n w q. sym (field_among n ds) ∙ this_bool (same_name t.1 l) (is_field n ds) (is_field_of_case n t.1 cs) false i q) rs u)
         (λ s j. subst (λ (q : Tag). is_among (names ds) q.0 ≡ false) (some_is t s j) (apart_from_first (names ds) others t.0 both.0 among))))
-        (λ i. lead_cases cs others ss t zs rs tg does kept.1 apart.1 own among both.1 (neither_so (is_among (literals cs) l) (has_twice (literals cs)) once).1 e
+        (λ i. lead_cases cs others ss t zs rs tg does kept.1 apart.1 own among both.1 (split_or (is_among (literals cs) l) (has_twice (literals cs)) once).1 e
         (weaker_slots (λ n w. MatchBool (same_name t.1 l) (FieldsFit U P ds n w) (CasesFit U P t.1 cs n w)) (CasesFit U P t.1 cs) (λ n w q. others_have (same_name t.1 l) (FieldsFit U P ds n w) (CasesFit U P t.1 cs n w) i q) zs h)
         (other_bool (same_name t.1 l) (has_musts ds (out_slots zs)) (has_case_musts t.1 cs (out_slots zs)) true i m)
         (weaker_slots (λ n w. (if same_name t.1 l then is_field n ds else is_field_of_case n t.1 cs) ≡ false) (λ n w. is_field_of_case n t.1 cs ≡ false) (λ n w q. other_bool (same_name t.1 l) (is_field n ds) (is_field_of_case n t.1 cs) false i q) rs u))

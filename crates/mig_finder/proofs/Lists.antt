@@ -1,15 +1,14 @@
 -- The places that a loop has added, and those that are still to come.
 use Rattle.std.proofs.Common.{◌≡◌, ◌∙◌, sym, ap, ℕ, Bool, true, false, ◌+◌, ◌<◌, List, [], ◌∷◌, ◌++◌, length, map, drop, get_or}
 use Rattle.std.specs.Prelude.{if◌then◌else◌}
-use Rattle.std.proofs.lemmas.List.{at_drop_more}
+use Rattle.std.proofs.lemmas.List.{append_assoc, at_drop_more, map-append}
 use Rattle.mig_model.specs.Template.{fields_of, cases_of, same_name}
 use Rattle.mig_template.specs.View.{template_of, field_of, case_of}
 use Rattle.mig_template.specs.declared.fields.Field.{Field}
 use Rattle.mig_template.specs.declared.record.Case.{Case}
-use Rattle.mig_optic.specs.Path.{Path, then_, case_of as at_case}
-use Rattle.mig_optic.proofs.Sequences.{append_assoc, map_append}
+use Rattle.mig_path.specs.Path.{Path, then_, case_of as at_case}
 use Rattle.mig_finder.specs.Places.{Place, behind, to_field, places, field_places, case_places}
-use Rattle.mig_finder.specs.View.{found_of}
+use Rattle.mig_finder.specs.View.{found_of, place_at}
 use Rattle.mig_finder.specs.declared.finding.Found.{Found}
 
 -- a place as it is seen from before an optic
@@ -19,8 +18,8 @@ later o p = (then_ o p.0, p.1)
 -- one place more, behind an optic
 pub added_behind : (o : Path) (old list new ys : List Found) (y x : Found) → new ≡ list ++ x ∷ [] → found_of x ≡ later o (found_of y) → map found_of list ≡ map found_of old ++ behind o (map found_of ys) → map found_of new ≡ map found_of old ++ behind o (map found_of (ys ++ y ∷ []))
 added_behind o old list new ys y x e f h =
-    ap (map found_of) e ∙ map_append found_of list (x ∷ []) ∙ (λ i. h i ++ f i ∷ []) ∙ append_assoc (map found_of old) (behind o (map found_of ys)) (later o (found_of y) ∷ [])
-    ∙ ap (λ (l : List Place). map found_of old ++ l) (sym (ap (behind o) (map_append found_of ys (y ∷ [])) ∙ map_append (later o) (map found_of ys) (found_of y ∷ [])))
+    ap (map found_of) e ∙ map-append found_of list (x ∷ []) ∙ (λ i. h i ++ f i ∷ []) ∙ append_assoc (map found_of old) (behind o (map found_of ys)) (later o (found_of y) ∷ [])
+    ∙ ap (λ (l : List Place). map found_of old ++ l) (sym (ap (behind o) (map-append found_of ys (y ∷ [])) ∙ map-append (later o) (map found_of ys) (found_of y ∷ [])))
 
 -- the places at one field
 abbrev pub at_field : List ℕ → Field → List Place
@@ -48,16 +47,13 @@ cases_more x cs i c list new all l e n h =
     ap (λ (ps : List Place). ps ++ rest) n ∙ append_assoc list (in_case x c) rest ∙ ap (λ (ps : List Place). list ++ ps) next ∙ h
 
 -- what is added at a field of the name, and at any other
-abbrev pub of_field : Field → Place
-of_field f = (to_field f.name f.presence, template_of f.template)
-
-pub named_field : (x : List ℕ) (f : Field) (list new : List Place) → same_name x f.name ≡ true → new ≡ list ++ of_field f ∷ [] → new ≡ list ++ at_field x f
-named_field x f list new is e = e ∙ sym (ap (λ (b : Bool). list ++ (if b then of_field f ∷ [] else behind (to_field f.name f.presence) (places x (template_of f.template)))) is)
+pub named_field : (x : List ℕ) (f : Field) (list new : List Place) → same_name x f.name ≡ true → new ≡ list ++ place_at f ∷ [] → new ≡ list ++ at_field x f
+named_field x f list new is e = e ∙ sym (ap (λ (b : Bool). list ++ (if b then place_at f ∷ [] else behind (to_field f.name f.presence) (places x (template_of f.template)))) is)
 
 pub other_field : (x : List ℕ) (f : Field) (list new inner : List Place) → same_name x f.name ≡ false → inner ≡ places x (template_of f.template) → new ≡ list ++ behind (to_field f.name f.presence) inner → new ≡ list ++ at_field x f
 other_field x f list new inner is h e =
     e ∙ ap (λ (ps : List Place). list ++ behind (to_field f.name f.presence) ps) h
-    ∙ sym (ap (λ (b : Bool). list ++ (if b then of_field f ∷ [] else behind (to_field f.name f.presence) (places x (template_of f.template)))) is)
+    ∙ sym (ap (λ (b : Bool). list ++ (if b then place_at f ∷ [] else behind (to_field f.name f.presence) (places x (template_of f.template)))) is)
 
 -- what is added of a case whose fields' places were found alone
 pub one_case : (x : List ℕ) (c : Case) (list new inner : List Found) (l : List ℕ) → l ≡ c.literal → map found_of inner ≡ field_places x (fields_of c.fields) → map found_of new ≡ map found_of list ++ behind (at_case l) (map found_of inner)

@@ -14,10 +14,13 @@ use Rattle.mig_model.specs.Template.{Template, Fields, no_field, field, field_li
 use Rattle.mig_template.specs.Parts.{is_among, has_twice_in}
 use Rattle.mig_value.specs.Typed.{Typed, rec, Slots, no_slot, slot, Tag, out, out_slots}
 use Rattle.mig_value.specs.Fit.{Fits, FieldsFit, CasesFit, EachSlot}
-use Rattle.mig_optic.specs.Fields.{under, value_in}
+use Rattle.mig_path.specs.Fields.{under, value_in}
 use Rattle.mig_finder.specs.Places.{to_field}
 use Rattle.mig_finder.specs.Law.{Finds}
-use Rattle.mig_finder.proofs.Names.{both_so, neither_so, so_by_first, so_by_second, so_if, equal_names, name_itself, other_name, apart_from_others}
+use Rattle.mig_finder.proofs.Names.{other_name, so_if}
+use Rattle.mig_model.proofs.Bools.{split_and, split_or, left_or, right_or}
+use Rattle.mig_model.proofs.SameNames.{same_name_is, same_name_itself}
+use Rattle.mig_template.proofs.Names.{apart_from_others}
 
 abbrev pub names : Fields → List (List ℕ)
 names fs = keys_of (field_list fs)
@@ -32,7 +35,7 @@ EachField Q (field y p V fs) = Q y p V × EachField Q fs
 
 pub by_name : (R : List ℕ → Type 0) (fs : Fields) → ((y : List ℕ) → is_among (names fs) y ≡ true → R y) → EachField (λ y p V. R y) fs
 by_name R no_field f = tt
-by_name R (field y p V fs) f = (f y (so_by_first (same_name y y) (is_among (names fs) y) (name_itself y)), by_name R fs (λ z a. f z (so_by_second (same_name z y) (is_among (names fs) z) a)))
+by_name R (field y p V fs) f = (f y (left_or (same_name y y) (is_among (names fs) y) (same_name_itself y)), by_name R fs (λ z a. f z (right_or (same_name z y) (is_among (names fs) z) a)))
 
 pub from_three : (A B C D : List ℕ → Presence → Template → Type 0) → ((y : List ℕ) (p : Presence) (V : Template) → A y p V → B y p V → C y p V → D y p V) → (fs : Fields) → EachField A fs → EachField B fs → EachField C fs → EachField D fs
 from_three A B C D f no_field a b c = tt
@@ -50,7 +53,7 @@ has_value x (slot n v ss) = by (same_name x n) (has_value x ss)
 musts_there : (ss : Slots) (fs : Fields) → has_musts fs (out_slots ss) ≡ true → EachField (λ y p V. is_must p ≡ true → is_some (value_in y ss) ≡ true) fs
 musts_there ss no_field h = tt
 musts_there ss (field y p V fs) h =
-    let both = both_so (not (is_must p) || is_some (found y (out_slots ss))) (has_musts fs (out_slots ss)) h in
+    let both = split_and (not (is_must p) || is_some (found y (out_slots ss))) (has_musts fs (out_slots ss)) h in
     (λ m. sym (has_value y ss) ∙ so_if (is_must p) (is_some (found y (out_slots ss))) both.0 m, musts_there ss fs both.1)
 
 value_of_slot : (Q : List ℕ → Typed → Type 0) (x : List ℕ) (w : Typed) (ss : Slots) → EachSlot Q ss → value_in x ss ≡ Some w → Q x w
@@ -58,16 +61,12 @@ value_of_slot Q x w no_slot e h = absurd cc
 value_of_slot Q x w (slot n v ss) e h = by (same_name x n) refl h (value_of_slot Q x w ss e.1)
   where
     by : (b : Bool) → same_name x n ≡ b → (if b then Some v else value_in x ss) ≡ Some w → (value_in x ss ≡ Some w → Q x w) → Q x w
-    by true i k rest = let is : v ≡ w = cc in subst (λ (m : List ℕ). Q m w) (sym (equal_names x n i)) (subst (λ (u : Typed). Q n u) is e.0)
+    by true i k rest = let is : v ≡ w = cc in subst (λ (m : List ℕ). Q m w) (sym (same_name_is x n i)) (subst (λ (u : Typed). Q n u) is e.0)
     by false i k rest = rest k
 
 no_value : (Q : List ℕ → Typed → Type 0) (x : List ℕ) (ss : Slots) → EachSlot Q ss → ((n : List ℕ) (w : Typed) → Q n w → same_name x n ≡ false) → value_in x ss ≡ None
 no_value Q x no_slot e f = refl
 no_value Q x (slot n v ss) e f = ap (λ (b : Bool). if b then Some v else value_in x ss) (f n v e.0) ∙ no_value Q x ss e.1 f
-
-pub weaker_slots : (Q R : List ℕ → Typed → Type 0) → ((n : List ℕ) (w : Typed) → Q n w → R n w) → (ss : Slots) → EachSlot Q ss → EachSlot R ss
-weaker_slots Q R f no_slot e = tt
-weaker_slots Q R f (slot n v ss) e = (f n v e.0, weaker_slots Q R f ss e.1)
 
 or_none : (o : Option Typed) → option_or o None ≡ o
 or_none None = refl
@@ -88,7 +87,7 @@ module _ (U : Typed → Type 0) (P : List ℕ → Typed → Type 0) where
   name_of_case others l (case m ds cs) n w d h = by (same_name l m) h (name_of_case others l cs n w both.1)
     where
       both : (has_twice (names ds ++ others) ≡ false) × (list_any (has_twice_in others) (case_list cs) ≡ false)
-      both = neither_so (has_twice (names ds ++ others)) (list_any (has_twice_in others) (case_list cs)) d
+      both = split_or (has_twice (names ds ++ others)) (list_any (has_twice_in others) (case_list cs)) d
 
       by : (b : Bool) → MatchBool b (FieldsFit U P ds n w) (CasesFit U P l cs n w) → (CasesFit U P l cs n w → is_among others n ≡ false) → is_among others n ≡ false
       by true k rest = apart_from_others (names ds) others n both.0 (name_of_field ds n w k)
@@ -98,10 +97,10 @@ module _ (U : Typed → Type 0) (P : List ℕ → Typed → Type 0) where
   own_template : (G : List ℕ → Typed → Type 0) (fs : Fields) → has_twice (names fs) ≡ false → ((y : List ℕ) (w : Typed) → is_among (names fs) y ≡ true → G y w → FieldsFit U P fs y w) → EachField (λ y p V. (w : Typed) → G y w → Fits U P V w) fs
   own_template G no_field d f = tt
   own_template G (field y p V fs) d f =
-      let both = neither_so (is_among (names fs) y) (has_twice (names fs)) d in (
-        λ w g. MatchBool-at_true (Fits U P V w) (FieldsFit U P fs y w) (name_itself y) (f y w (so_by_first (same_name y y) (is_among (names fs) y) (name_itself y)) g),
+      let both = split_or (is_among (names fs) y) (has_twice (names fs)) d in (
+        λ w g. MatchBool-at_true (Fits U P V w) (FieldsFit U P fs y w) (same_name_itself y) (f y w (left_or (same_name y y) (is_among (names fs) y) (same_name_itself y)) g),
         own_template G fs both.1
-            (λ z w a g. MatchBool-at_false (Fits U P V w) (FieldsFit U P fs z w) (other_name z y (names fs) a both.0) (f z w (so_by_second (same_name z y) (is_among (names fs) z) a) g)),
+            (λ z w a g. MatchBool-at_false (Fits U P V w) (FieldsFit U P fs z w) (other_name z y (names fs) a both.0) (f z w (right_or (same_name z y) (is_among (names fs) z) a) g)),
       )
 
   -- ---- what the optic to a field finds
@@ -136,4 +135,4 @@ module _ (U : Typed → Type 0) (P : List ℕ → Typed → Type 0) where
 
   -- a name of a field of a case is none of the other names
   pub name_of_choice : (fs : Fields) (tg : List ℕ) (cs : Cases) (t : Tag) (n : List ℕ) (w : Typed) → list_any (has_twice_in (tg ∷ names fs)) (case_list cs) ≡ false → CasesFit U P t.1 cs n w → is_among (names fs) n ≡ false
-  name_of_choice fs tg cs t n w d h = (neither_so (same_name n tg) (is_among (names fs) n) (name_of_case (tg ∷ names fs) t.1 cs n w d h)).1
+  name_of_choice fs tg cs t n w d h = (split_or (same_name n tg) (is_among (names fs) n) (name_of_case (tg ∷ names fs) t.1 cs n w d h)).1

@@ -1,6 +1,6 @@
 -- What an optic of one step does to a value, its step does to the value's tree.
 use Rattle.std.proofs.Common.{◌≡◌, ◌∙◌, refl, sym, ap, ap₂, subst, ℕ, List, [], ◌∷◌, ◌++◌, Bool, true, false, true≢false, Option, Some, None, MatchBool, map}
-use Rattle.std.specs.Prelude.{◌||◌, is_some, option_to_list, if◌then◌else◌}
+use Rattle.std.specs.Prelude.{is_some, option_to_list, if◌then◌else◌}
 use Rattle.std.specs.List.{AllByRecursion}
 use Rattle.std.specs.Option.{option_or}
 use Rattle.std.specs.Ordering.{match_ordering, is_eq}
@@ -10,20 +10,20 @@ use Rattle.mig_model.proofs.Ascending.{flips}
 use Rattle.mig_model.specs.declared.form.Form.{Form}
 use Rattle.mig_model.specs.Plain as plain
 use Rattle.mig_model.specs.Plain.{Plain, pairs_of, entries, tree, trees_of, each_entry}
-use Rattle.mig_model.specs.Kinds.{kind_of}
+use Rattle.mig_model.specs.Kinds.{kind_of, entries_of_pairs}
 use Rattle.mig_model.specs.Inhabits.{Entries, has_tag, is_text}
 use Rattle.mig_model.specs.Names.{by_bytes, with_pair, found}
 use Rattle.mig_model.specs.Template as template
 use Rattle.mig_model.specs.Template.{Template, same_name, same_kind, has_kind}
 use Rattle.mig_laws.specs.Sides.{is_side}
-use Rattle.mig_laws.proofs.Tests.{same_kind_itself}
 use Rattle.mig_value.specs.Typed.{Typed, atom, list, left, right, rec, Items, no_item, item, items, items_of, Slots, no_slot, slot, Tag, tag_pair, in_order, out, out_items, out_slots}
 use Rattle.mig_value.specs.Fit.{Fits, EachSlot}
-use Rattle.mig_optic.specs.declared.side.Side.TheVariants.{Left, Right}
-use Rattle.mig_optic.specs.Fields.{value_in, with_value, under}
-use Rattle.mig_optic.specs.Path.{Path, may_field, case_of, each, side, foci, over, over_field}
+use Rattle.mig_path.specs.declared.side.Side.TheVariants.{Left, Right}
+use Rattle.mig_path.specs.Fields.{value_in, with_value, under}
+use Rattle.mig_path.specs.Path.{Path, may_field, case_of, each, side, foci, over, over_field}
 use Rattle.mig_finder.specs.Ways.{Step, name, tagged, item as each_item, kinds, at_step}
-use Rattle.mig_finder.proofs.Names.{both_so, equal_names, name_itself}
+use Rattle.mig_model.proofs.Bools.{split_and, left_or, right_or}
+use Rattle.mig_model.proofs.SameNames.{same_name_is, same_name_itself, same_kind_itself}
 
 -- where g changes the trees of what the optic finds as f does, it changes the value's tree as f does where the step leads
 abbrev pub Does : Path → Step → Typed → Type 0
@@ -38,13 +38,6 @@ pub does_each : (vs : Items) → Does each each_item (list vs)
 does_each vs g f h = ap plain.list (items_changed g f vs h)
 
 -- ---- the sides of a sum
-both_kinds : (a b : Bool) → a ≡ true → (a || b) ≡ true
-both_kinds a b e = rw e refl
-
-other_kinds : (a b : Bool) → b ≡ true → (a || b) ≡ true
-other_kinds true b e = refl
-other_kinds false b e = e
-
 -- a value of a side has a tree of one of its kinds
 pub kind_there : (form : Form) (U : Typed → Type 0) (P : List ℕ → Typed → Type 0) (V : Template) (v : Typed) → is_side V ≡ true → Fits U P V v → has_kind form V (kind_of (out v)) ≡ true
 kind_there form U P (template.leaf k) (atom t) s h = ap (same_kind k) h ∙ same_kind_itself k
@@ -56,9 +49,9 @@ kind_there form U P (template.point n) v s h = absurd (true≢false (sym s))
 kind_there form U P (template.rec fs c r) (rec ss tag zs rs) s h = refl
 kind_there form U P (template.rec fs c r) v s h = absurd h
 kind_there form U P (template.sum V W) (left v) s h =
-    both_kinds (has_kind form V (kind_of (out v))) (has_kind form W (kind_of (out v))) (kind_there form U P V v (both_so (is_side V) (is_side W) s).0 h)
+    left_or (has_kind form V (kind_of (out v))) (has_kind form W (kind_of (out v))) (kind_there form U P V v (split_and (is_side V) (is_side W) s).0 h)
 kind_there form U P (template.sum V W) (right v) s h =
-    other_kinds (has_kind form V (kind_of (out v))) (has_kind form W (kind_of (out v))) (kind_there form U P W v (both_so (is_side V) (is_side W) s).1 h)
+    right_or (has_kind form V (kind_of (out v))) (has_kind form W (kind_of (out v))) (kind_there form U P W v (split_and (is_side V) (is_side W) s).1 h)
 kind_there form U P (template.sum V W) v s h = absurd h
 
 module _ (form : Form) (V : Template) (v : Typed) where
@@ -81,10 +74,6 @@ module _ (form : Form) (V : Template) (v : Typed) where
 abbrev first : List ℕ → Plain → Entries → Entries
 first n t es = (n, t) ∷ es
 
-entries_again : (ps : Entries) → entries (pairs_of ps) ≡ ps
-entries_again [] = refl
-entries_again (p ∷ ps) = ap (λ (l : Entries). p ∷ l) (entries_again ps)
-
 module _ (h : List ℕ → Plain → Plain) where
   put_each : (n : List ℕ) (t : Plain) (ps : Entries) → each_entry h (with_pair n t ps) ≡ with_pair n (h n t) (each_entry h ps)
   put_each n t [] = refl
@@ -92,7 +81,7 @@ module _ (h : List ℕ → Plain → Plain) where
     where
       by : (o : Ordering) → by_bytes n p.0 ≡ o → each_entry h (with_pair n t ps) ≡ with_pair n (h n t) (each_entry h ps) → each_entry h (match_ordering o ((n, t) ∷ p ∷ ps) ((p.0, t) ∷ ps) (p ∷ with_pair n t ps)) ≡ match_ordering o ((n, h n t) ∷ (p.0, h p.0 p.1) ∷ each_entry h ps) ((p.0, h n t) ∷ each_entry h ps) ((p.0, h p.0 p.1) ∷ with_pair n (h n t) (each_entry h ps))
       by Less e rest = refl
-      by Equal e rest = ap (λ (m : List ℕ). first p.0 (h m t) (each_entry h ps)) (sym (equal_names n p.0 (ap is_eq e)))
+      by Equal e rest = ap (λ (m : List ℕ). first p.0 (h m t) (each_entry h ps)) (sym (same_name_is n p.0 (ap is_eq e)))
       by Greater e rest = ap (λ (l : Entries). (p.0, h p.0 p.1) ∷ l) rest
 
   order_each : (ps : Entries) → each_entry h (in_order ps) ≡ in_order (each_entry h ps)
@@ -114,8 +103,8 @@ found_put x n t (p ∷ ps) = by (by_bytes n p.0) refl (found_put x n t ps)
 
     apart : by_bytes n p.0 ≡ Greater → same_name x p.0 ≡ true → same_name x n ≡ true → ⊥
     apart e a b =
-        let same : n ≡ p.0 = sym (equal_names x n b) ∙ equal_names x p.0 a in
-        let yes : same_name n p.0 ≡ true = subst (λ (m : List ℕ). same_name n m ≡ true) same (name_itself n) in
+        let same : n ≡ p.0 = sym (same_name_is x n b) ∙ same_name_is x p.0 a in
+        let yes : same_name n p.0 ≡ true = subst (λ (m : List ℕ). same_name n m ≡ true) same (same_name_itself n) in
         true≢false (sym yes ∙ ap is_eq e)
 
     by : (o : Ordering) → by_bytes n p.0 ≡ o → found x (with_pair n t ps) ≡ (if same_name x n then Some t else found x ps) → found x (match_ordering o ((n, t) ∷ p ∷ ps) ((p.0, t) ∷ ps) (p ∷ with_pair n t ps)) ≡ (if same_name x n then Some t else (if same_name x p.0 then Some p.1 else found x ps))
@@ -123,7 +112,7 @@ found_put x n t (p ∷ ps) = by (by_bytes n p.0) refl (found_put x n t ps)
     by Equal e rest = equal_case (same_name x p.0) refl
       where
         same : n ≡ p.0
-        same = equal_names n p.0 (ap is_eq e)
+        same = same_name_is n p.0 (ap is_eq e)
 
         twice : (b : Bool) → (if b then Some t else found x ps) ≡ (if b then Some t else (if b then Some p.1 else found x ps))
         twice true = refl
@@ -199,7 +188,7 @@ module _ (x : List ℕ) (ss : Slots) (tag : Option Tag) (zs rs : Slots) (no_tag 
       each_append h (out_slots ss) (tag_pair tag ++ (out_slots zs ++ out_slots rs))
       ∙ ap₂ (λ (l m : Entries). l ++ m) a
       (each_append h (tag_pair tag) (out_slots zs ++ out_slots rs) ∙ ap₂ (λ (l m : Entries). l ++ m) (tag_stays x f tag no_tag) (each_append h (out_slots zs) (out_slots rs) ∙ ap₂ (λ (l m : Entries). l ++ m) c (slots_stay x f rs no_rest))) in
-      ap (λ (l : Entries). plain.map (pairs_of (in_order l))) (sym split) ∙ ap (λ (l : Entries). plain.map (pairs_of l)) (sym (order_each h ps)) ∙ ap (λ (l : Entries). plain.map (pairs_of (each_entry h l))) (sym (entries_again (in_order ps)))
+      ap (λ (l : Entries). plain.map (pairs_of (in_order l))) (sym split) ∙ ap (λ (l : Entries). plain.map (pairs_of l)) (sym (order_each h ps)) ∙ ap (λ (l : Entries). plain.map (pairs_of (each_entry h l))) (sym (entries_of_pairs (in_order ps)))
 
   -- nothing stands under it
   nothing_there : Free x ss → Free x zs → (f : Plain → Plain) → out value ≡ at_step (name x) f (out value)
@@ -259,8 +248,8 @@ module _ (l : List ℕ) (ss : Slots) (t : Tag) (zs rs : Slots) (free : Free t.0 
 
   tag_there : found t.0 (entries (pairs_of (in_order pairs))) ≡ Some (plain.text t.1)
   tag_there =
-      ap (found t.0) (entries_again (in_order pairs)) ∙ found_in_order t.0 pairs ∙ found_behind t.0 ss ((t.0, plain.text t.1) ∷ (out_slots zs ++ out_slots rs)) free
-      ∙ ap (λ (b : Bool). if b then Some (plain.text t.1) else found t.0 (out_slots zs ++ out_slots rs)) (name_itself t.0)
+      ap (found t.0) (entries_of_pairs (in_order pairs)) ∙ found_in_order t.0 pairs ∙ found_behind t.0 ss ((t.0, plain.text t.1) ∷ (out_slots zs ++ out_slots rs)) free
+      ∙ ap (λ (b : Bool). if b then Some (plain.text t.1) else found t.0 (out_slots zs ++ out_slots rs)) (same_name_itself t.0)
 
   literal_is : has_tag t.0 l (entries (pairs_of (in_order pairs))) ≡ same_name l t.1
   literal_is = ap (is_text l) tag_there ∙ flips t.1 l

@@ -9,7 +9,7 @@ use Rattle.mig_template.specs.Kept.{IsKept}
 use Rattle.mig_value.specs.Typed.{Typed, out}
 use Rattle.mig_value.specs.Kept as value
 use Rattle.mig_value.specs.Fit.{Fits}
-use Rattle.mig_optic.specs.Path.{Takes, foci, over}
+use Rattle.mig_path.specs.Path.{Takes, foci, over}
 use Rattle.mig_finder.specs.Places.{Place, places}
 use Rattle.mig_finder.specs.Ways.{Way, at_place, ways}
 

@@ -4,8 +4,8 @@ use Rattle.mig_model.specs.declared.presence.Presence.{Presence}
 use Rattle.mig_model.specs.declared.presence.Presence.TheVariants.{Must, May}
 use Rattle.mig_model.specs.Template as template
 use Rattle.mig_model.specs.Template.{Template, Fields, no_field, field, Choice, no_choice, choice, Cases, no_case, case, same_name}
-use Rattle.mig_optic.specs.declared.side.Side.TheVariants.{Left, Right}
-use Rattle.mig_optic.specs.Path.{Path, field_at, may_field, case_of, each, side, then_}
+use Rattle.mig_path.specs.declared.side.Side.TheVariants.{Left, Right}
+use Rattle.mig_path.specs.Path.{Path, field_at, may_field, case_of, each, side, then_}
 
 abbrev pub Place : Type 0
 Place = Path × Template

@@ -1,3 +1,4 @@
+//! Why no place is found.
 ghost use Rattle.std.specs.Prelude.{◌≡◌};
 ghost use Rattle.mig_finder.specs.declared.fault.FindFault.TheVariants as faults;
 

@@ -1,7 +1,8 @@
-ghost use Rattle.std.specs.Prelude.{◌≡◌, ◌<◌, [], Err, length, map, IfOk};
+//! The call that finds the places of a name.
+ghost use Rattle.std.specs.Prelude.{◌≡◌, ◌<◌, [], Err, length, IfOk};
 ghost use Rattle.mig_template.specs.View.{template_of};
 ghost use Rattle.mig_finder.specs.Places.{places};
-ghost use Rattle.mig_finder.specs.View.{found_of};
+ghost use Rattle.mig_finder.specs.View.{places_of};
 ghost use Rattle.mig_finder.specs.declared.fault.FindFault.TheVariants as faults;
 
 use crate::FindFault;
@@ -18,11 +19,13 @@ pub struct Found {
     pub focus: Template,
 }
 
-/// The places of the name in the template: common fields come in the order of their names, then cases in the order of their literals with their fields in order, and the left side of a sum before the right. Nothing inside a place is looked at. The order is this project's own.
+/// The places of the name in the template: common fields come in the order of their names, then cases in the order of
+/// their literals with their fields in order, and the left side of a sum before the right. Nothing inside a place is
+/// looked at. The order is this project's own.
 ///
 /// `NoneThere` comes exactly where there is none.
 pub fn find(alloc: Global, template: &Template, name: &Name) -> Result<Vec<Found>, FindFault>
-    ensures places { IfOk result (λ found. map found_of found.items ≡ places name.now (template_of template.now)) }
+    ensures places { IfOk result (λ found. places_of found.items ≡ places name.now (template_of template.now)) }
     ensures some { IfOk result (λ found. 0 < length found.items) }
     ensures none { result ≡ Err faults.NoneThere → places name.now (template_of template.now) ≡ [] }
 {

@@ -1,10 +1,10 @@
-ghost use Rattle.std.specs.Prelude.{◌≡◌, ◌∷◌, ◌++◌, [], Some, map, IfOk, OnOk};
+//! The walk through a template, which adds the places part by part.
+ghost use Rattle.std.specs.Prelude.{◌≡◌, ◌∷◌, ◌++◌, [], IfOk, OnOk};
 ghost use Rattle.mig_model.specs.Template.{fields_of, cases_of, same_name};
-ghost use Rattle.mig_template.specs.Parts.{choice_of};
 ghost use Rattle.mig_template.specs.View.{template_of};
 ghost use Rattle.mig_optic.specs.AnyView.{any_path};
 ghost use Rattle.mig_finder.specs.Places.{behind, to_field, places, field_places, case_places};
-ghost use Rattle.mig_finder.specs.View.{found_of};
+ghost use Rattle.mig_finder.specs.View.{places_of, place_at, inside};
 
 use crate::Found;
 use mig_optic::{AnyOptic, CaseOf, FieldAt, MayField, Side};
@@ -37,7 +37,8 @@ fn add_behind(
     inner: Vec<Found>,
     list: &mut Vec<Found>,
 ) -> Result<(), Memory>
-    ensures { OnOk result (map found_of list.new.items ≡ map found_of list.old.items ++ behind (any_path optic.now) (map found_of inner.items)) }
+    ensures { OnOk result (places_of list.new.items
+        ≡ places_of list.old.items ++ behind (any_path optic.now) (places_of inner.items)) }
 {
     for found in inner {
         let Found { optic: last, focus } = found;
@@ -49,7 +50,7 @@ fn add_behind(
 
 /// Adds the place that a field is.
 fn add_place(alloc: Global, field: &Field, list: &mut Vec<Found>) -> Result<(), Memory>
-    ensures { OnOk result (map found_of list.new.items ≡ map found_of list.old.items ++ (to_field field.now.name field.now.presence, template_of field.now.template) ∷ []) }
+    ensures { OnOk result (places_of list.new.items ≡ places_of list.old.items ++ place_at field.now ∷ []) }
 {
     let optic = to_field(alloc, field)?;
     let focus = field.template.copy(alloc)?;
@@ -64,7 +65,8 @@ fn add_inside(
     inner: Vec<Found>,
     list: &mut Vec<Found>,
 ) -> Result<(), Memory>
-    ensures { OnOk result (map found_of list.new.items ≡ map found_of list.old.items ++ behind (to_field field.now.name field.now.presence) (map found_of inner.items)) }
+    ensures { OnOk result (places_of list.new.items
+        ≡ places_of list.old.items ++ inside field.now (places_of inner.items)) }
 {
     let optic = to_field(alloc, field)?;
     add_behind(alloc, &optic, inner, list)
@@ -73,7 +75,7 @@ fn add_inside(
 /// The places in the template. It copies a template for each, and an optic for each level above it.
 #[cycle(places)]
 pub fn places_in(alloc: Global, template: &Template, name: &Name) -> Result<Vec<Found>, Memory>
-    ensures { IfOk result (λ found. map found_of found.items ≡ places name.now (template_of template.now)) }
+    ensures { IfOk result (λ found. places_of found.items ≡ places name.now (template_of template.now)) }
 {
     let mut list = Vec::new(alloc);
     match template {
@@ -106,7 +108,8 @@ fn add_field_places(
     name: &Name,
     list: &mut Vec<Found>,
 ) -> Result<(), Memory>
-    ensures { OnOk result (map found_of list.new.items ≡ map found_of list.old.items ++ field_places name.now (fields_of fields.now)) }
+    ensures { OnOk result (places_of list.new.items
+        ≡ places_of list.old.items ++ field_places name.now (fields_of fields.now)) }
 {
     for field in fields.as_slice() {
         if has_name(field, name) {
@@ -127,7 +130,8 @@ fn add_case_places(
     name: &Name,
     list: &mut Vec<Found>,
 ) -> Result<(), Memory>
-    ensures { OnOk result (map found_of list.new.items ≡ map found_of list.old.items ++ case_places name.now (cases_of choice.now.1)) }
+    ensures { OnOk result (places_of list.new.items
+        ≡ places_of list.old.items ++ case_places name.now (cases_of choice.now.1)) }
 {
     for case in choice.cases() {
         let literal = case.literal.copy(alloc)?;

@@ -1,8 +1,9 @@
 -- The optic that an `AnyOptic` is, and the rest that its residue stands for: one level, since what is inside is seen as plain data already.
 use Rattle.std.specs.Prelude.{ℕ}
-use Rattle.mig_optic.specs.Path.{Path, here, field_at, may_field, case_of, each, side, cross, then_}
-use Rattle.mig_optic.specs.Rest.{Rest, whole, many, named, both, groups_of}
-use Rattle.mig_optic.specs.Residues.{hole_rest, may_rest, case_rest, side_rest}
+use Rattle.mig_path.specs.Path.{Path, here, field_at, may_field, case_of, each, side, cross, then_}
+use Rattle.mig_path.specs.Rest.{Rest, whole, many, named, both, groups_of}
+use Rattle.mig_path.specs.Residues.{side_rest}
+use Rattle.mig_record_optic.specs.Residues.{hole_rest, may_rest, case_rest}
 use Rattle.mig_optic.specs.declared.any_optic.AnyOptic.{AnyOptic}
 use Rattle.mig_optic.specs.declared.any_optic.AnyOptic.TheVariants as O
 use Rattle.mig_optic.specs.declared.any_residue.Held.{Held}

@@ -3,21 +3,12 @@ use Rattle.std.specs.Prelude.{ℕ, suc, ◌+◌, List, ◌≡◌, refl}
 use Rattle.std.specs.Coded.{Coded, coded_ℕ, coded_list, coded×}
 use Rattle.std.proofs.Common.{ap, ap₂, arith}
 use base.Stored.{Gv, gnil, gnum, gcons, num}
-use Rattle.mig_value.specs.Code.{coded_name, coded_typed}
-use Rattle.mig_optic.specs.declared.side.Side.{Side}
-use Rattle.mig_optic.specs.declared.side.Side.TheVariants.{Left, Right}
-use Rattle.mig_optic.specs.Path.{Path, here, field_at, may_field, case_of, each, side, cross, then_}
-use Rattle.mig_optic.specs.Rest.{Rest, whole, stays, hole, many, in_left, in_right, named, both, Groups, no_group, group, groups_of}
-
-abbrev head : Gv → Gv
-head gnil = gnil
-head (gnum n) = gnil
-head (gcons a b) = a
-
-abbrev tail : Gv → Gv
-tail gnil = gnil
-tail (gnum n) = gnil
-tail (gcons a b) = b
+use Rattle.mig_model.specs.Stored.{head, tail, coded_name}
+use Rattle.mig_value.specs.Code.{coded_typed}
+use Rattle.mig_path.specs.declared.side.Side.{Side}
+use Rattle.mig_path.specs.declared.side.Side.TheVariants.{Left, Right}
+use Rattle.mig_path.specs.Path.{Path, here, field_at, may_field, case_of, each, side, cross, then_}
+use Rattle.mig_path.specs.Rest.{Rest, whole, stays, hole, many, in_left, in_right, named, both, Groups, no_group, group, groups_of}
 
 abbrev pub side_number : Side → ℕ
 side_number Left = 0

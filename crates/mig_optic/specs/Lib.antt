@@ -1,9 +1,3 @@
-pub mod Fields
-pub mod Path
-pub mod Rest
-pub mod Laws
-pub mod Holes
-pub mod Residues
 pub mod Code
 pub mod AnyView
 pub mod AnyFalls

@@ -1,6 +1,7 @@
+//! Optics that are chosen at run time.
 ghost use Rattle.std.specs.Prelude.{◌≡◌, IfOk};
 ghost use Rattle.mig_optic.specs.AnyView.{any_path};
-ghost use Rattle.mig_optic.specs.Path.{then_};
+ghost use Rattle.mig_path.specs.Path.{then_};
 
 use crate::{CaseOf, FieldAt, MayField, Memory, Side};
 use std::alloc::Global;
@@ -28,7 +29,7 @@ pub struct OpticBox {
 }
 
 impl Model for OpticBox {
-    ghost use Rattle.mig_optic.specs.Path.{Path};
+    ghost use Rattle.mig_path.specs.Path.{Path};
     ghost use Rattle.mig_optic.specs.Code.{path_size, coded_path};
 
     ghost Value = { Path };
@@ -62,14 +63,6 @@ impl OpticBox {
         ensures { any_path result.now ≡ self.now }
     {
         &self.optic
-    }
-
-    /// Gives the optic up.
-    pub fn into_optic(self) -> AnyOptic
-        ensures { any_path result ≡ self }
-    {
-        let OpticBox { optic } = self;
-        Box::into_inner(optic)
     }
 }
 

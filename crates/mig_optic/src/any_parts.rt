@@ -1,14 +1,16 @@
+//! Any optic parts a value and rejoins it. What takes memory beside the recursion stands in functions of its own.
 ghost use Rattle.std.specs.Prelude.{◌≡◌, ◌+◌, ◌≤◌, IfOk, length, map};
 ghost use Rattle.std.specs.List.{flat_map, AllByRecursion};
 ghost use Rattle.mig_value.specs.View.{typed_of};
 ghost use Rattle.mig_optic.specs.AnyView.{any_path, group_pair};
-ghost use Rattle.mig_optic.specs.Path.{foci, Takes, crossed, total_of, then_};
-ghost use Rattle.mig_optic.specs.Rest.{rest_for, part_of, join, joins, Fits, groups_of, total, AreFormed};
+ghost use Rattle.mig_path.specs.Path.{foci, Takes, crossed, total_of, then_};
+ghost use Rattle.mig_path.specs.Rest.{rest_for, part_of, both, join, joins, Fits, groups_of, total, AreFormed};
 
 use crate::any_residue::{AnyGroup, AnyGroups, Held};
 use crate::held::part_held;
-use crate::lists::{only, take_front};
 use crate::{AnyOptic, AnyResidue, Counter, Cross, Each, Here, Memory, Optic, Value};
+use mig_path::only;
+use mig_typed_optic::{add_part, take_front};
 use std::alloc::Global;
 
 /// Parts a value by any optic.
@@ -22,7 +24,8 @@ fn part_any<'a, C: Counter>(
     requires { Takes (any_path optic.now) (typed_of value) }
     ensures foci { IfOk result (λ x. map typed_of x.0.items ≡ foci (any_path optic.now) (typed_of value.entry)) }
     ensures rest { IfOk result (λ x. x.1 ≡ rest_for (any_path optic.now) (typed_of value.entry)) }
-    ensures exact { IfOk result (λ _. C.counted steps.new ≡ C.counted steps.old + crossed (any_path optic.now) (typed_of value.entry)) }
+    ensures exact { IfOk result (λ _. C.counted steps.new
+        ≡ C.counted steps.old + crossed (any_path optic.now) (typed_of value.entry)) }
     ensures count { C.counted steps.new ≤ C.counted steps.old + crossed (any_path optic.now) (typed_of value.entry) }
     ensures grows { C.counted steps.old ≤ C.counted steps.new }
 {
@@ -48,14 +51,31 @@ fn part_then<'a, C: Counter>(
     steps: &mut C,
 ) -> Result<(Vec<Value<'a>>, AnyResidue<'a>), Memory>
     requires { Takes (then_ (any_path first.now) (any_path second.now)) (typed_of value) }
-    ensures foci { IfOk result (λ x. map typed_of x.0.items ≡ foci (then_ (any_path first.now) (any_path second.now)) (typed_of value.entry)) }
-    ensures rest { IfOk result (λ x. x.1 ≡ rest_for (then_ (any_path first.now) (any_path second.now)) (typed_of value.entry)) }
-    ensures exact { IfOk result (λ _. C.counted steps.new ≡ C.counted steps.old + crossed (then_ (any_path first.now) (any_path second.now)) (typed_of value.entry)) }
-    ensures count { C.counted steps.new ≤ C.counted steps.old + crossed (then_ (any_path first.now) (any_path second.now)) (typed_of value.entry) }
+    ensures foci { IfOk result (λ x. map typed_of x.0.items
+        ≡ foci (then_ (any_path first.now) (any_path second.now)) (typed_of value.entry)) }
+    ensures rest { IfOk result (λ x. x.1
+        ≡ rest_for (then_ (any_path first.now) (any_path second.now)) (typed_of value.entry)) }
+    ensures exact { IfOk result (λ _. C.counted steps.new
+        ≡ C.counted steps.old + crossed (then_ (any_path first.now) (any_path second.now)) (typed_of value.entry)) }
+    ensures count { C.counted steps.new ≤ C.counted steps.old + crossed (then_ (any_path first.now)
+        (any_path second.now)) (typed_of value.entry) }
     ensures grows { C.counted steps.old ≤ C.counted steps.new }
 {
     let (values, outer) = part_any(first, alloc, value, steps)?;
     let (foci, inner) = part_each(second, alloc, values, steps)?;
+    with_inner(alloc, foci, outer, inner)
+}
+
+/// The foci with the residue of the first optic and of the second at each focus of it.
+fn with_inner<'a>(
+    alloc: Global,
+    foci: Vec<Value<'a>>,
+    outer: AnyResidue<'a>,
+    inner: Vec<AnyGroup<'a>>,
+) -> Result<(Vec<Value<'a>>, AnyResidue<'a>), Memory>
+    ensures foci { IfOk result (λ x. x.0.items ≡ foci.entry.items) }
+    ensures rest { IfOk result (λ x. x.1 ≡ both outer.entry (groups_of (map group_pair inner.entry.items))) }
+{
     let outer = Box::new(alloc, outer)?;
     let both = Held::Both(outer, AnyGroups::new(inner));
     Ok((foci, AnyResidue::new(both)))
@@ -70,19 +90,22 @@ fn part_each<'a, C: Counter>(
     steps: &mut C,
 ) -> Result<(Vec<Value<'a>>, Vec<AnyGroup<'a>>), Memory>
     requires { AllByRecursion (Takes (any_path optic.now)) (map typed_of values.items) }
-    ensures foci { IfOk result (λ x. map typed_of x.0.items ≡ flat_map (foci (any_path optic.now)) (map typed_of values.entry.items)) }
-    ensures groups { IfOk result (λ x. map group_pair x.1.items ≡ map (part_of (any_path optic.now)) (map typed_of values.entry.items)) }
-    ensures exact { IfOk result (λ _. C.counted steps.new ≡ C.counted steps.old + total_of (crossed (any_path optic.now)) (map typed_of values.entry.items)) }
-    ensures count { C.counted steps.new ≤ C.counted steps.old + total_of (crossed (any_path optic.now)) (map typed_of values.entry.items) }
+    ensures foci { IfOk result (λ x. map typed_of x.0.items
+        ≡ flat_map (foci (any_path optic.now)) (map typed_of values.entry.items)) }
+    ensures groups { IfOk result (λ x. map group_pair x.1.items
+        ≡ map (part_of (any_path optic.now)) (map typed_of values.entry.items)) }
+    ensures exact { IfOk result (λ _. C.counted steps.new
+        ≡ C.counted steps.old + total_of (crossed (any_path optic.now)) (map typed_of values.entry.items)) }
+    ensures count { C.counted steps.new ≤ C.counted steps.old + total_of (crossed (any_path optic.now))
+        (map typed_of values.entry.items) }
     ensures grows { C.counted steps.old ≤ C.counted steps.new }
 {
     let mut foci = Vec::new(alloc);
     let mut groups = Vec::new(alloc);
     for value in values {
-        let (mut more, residue) = part_any(optic, alloc, value, steps)?;
+        let (more, residue) = part_any(optic, alloc, value, steps)?;
         let count = more.len();
-        foci.append(&mut more)?;
-        groups.push(AnyGroup { count, residue })?;
+        add_part(more, AnyGroup { count, residue }, &mut foci, &mut groups)?;
     }
     Ok((foci, groups))
 }
@@ -121,7 +144,8 @@ fn rejoin_each<'a>(
 ) -> Result<Vec<Value<'a>>, Memory>
     requires formed { AreFormed (groups_of (map group_pair groups.items)) }
     requires enough { length foci.items ≡ total (groups_of (map group_pair groups.items)) }
-    ensures { IfOk result (λ values. map typed_of values.items ≡ joins (groups_of (map group_pair groups.entry.items)) (map typed_of foci.entry.items)) }
+    ensures { IfOk result (λ values. map typed_of values.items
+        ≡ joins (groups_of (map group_pair groups.entry.items)) (map typed_of foci.entry.items)) }
 {
     let mut reversed = foci;
     reversed.reverse();

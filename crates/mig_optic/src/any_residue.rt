@@ -1,3 +1,4 @@
+//! What any optic leaves of a value.
 ghost use Rattle.std.specs.Prelude.{◌≡◌, map};
 ghost use Rattle.mig_optic.specs.AnyView.{held_rest, group_pair};
 
@@ -41,7 +42,7 @@ pub(crate) struct AnyGroups<'a> {
 }
 
 impl<'a> Model for AnyResidue<'a> {
-    ghost use Rattle.mig_optic.specs.Rest.{Rest};
+    ghost use Rattle.mig_path.specs.Rest.{Rest};
     ghost use Rattle.mig_optic.specs.Code.{rest_size, coded_rest};
 
     ghost Value = { Rest };
@@ -62,7 +63,7 @@ impl<'a> Model for AnyResidue<'a> {
 
 impl<'a> Model for AnyGroups<'a> {
     ghost use Rattle.std.specs.Prelude.{List, ℕ, map};
-    ghost use Rattle.mig_optic.specs.Rest.{Rest};
+    ghost use Rattle.mig_path.specs.Rest.{Rest};
     ghost use Rattle.mig_optic.specs.Code.{list_size, coded_groups};
 
     ghost Value = { List (ℕ × Rest) };

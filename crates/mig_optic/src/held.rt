@@ -1,8 +1,8 @@
 //! Each optic's residue as that of an `AnyOptic`, so that all are parted by one function.
 ghost use Rattle.std.specs.Prelude.{◌≡◌, ◌+◌, ◌≤◌, IfOk, map};
 ghost use Rattle.mig_value.specs.View.{typed_of};
-ghost use Rattle.mig_optic.specs.Path.{foci, Takes, crossed};
-ghost use Rattle.mig_optic.specs.Rest.{rest_for};
+ghost use Rattle.mig_path.specs.Path.{foci, Takes, crossed};
+ghost use Rattle.mig_path.specs.Rest.{rest_for};
 
 use crate::any_residue::Held;
 use crate::{
@@ -70,7 +70,8 @@ pub fn part_held<'a, O: HeldOptic<'a>, C: Counter>(
     requires { Takes (O.path optic.now) (typed_of value) }
     ensures foci { IfOk result (λ x. map typed_of x.0.items ≡ foci (O.path optic.now) (typed_of value.entry)) }
     ensures rest { IfOk result (λ x. x.1 ≡ rest_for (O.path optic.now) (typed_of value.entry)) }
-    ensures exact { IfOk result (λ _. C.counted steps.new ≡ C.counted steps.old + crossed (O.path optic.now) (typed_of value.entry)) }
+    ensures exact { IfOk result (λ _. C.counted steps.new
+        ≡ C.counted steps.old + crossed (O.path optic.now) (typed_of value.entry)) }
     ensures count { C.counted steps.new ≤ C.counted steps.old + crossed (O.path optic.now) (typed_of value.entry) }
     ensures grows { C.counted steps.old ≤ C.counted steps.new }
 {

@@ -1,33 +1,16 @@
-//! Optics on typed values: they part a value into its foci and a residue, and rejoin the two.
+//! Optics on typed values: `AnyOptic`, which is chosen at run time, beside those that are each of its own type.
 #![tactic(auto)]
 
 mod any_optic;
 mod any_parts;
 mod any_residue;
-mod case;
-mod cross;
-mod each;
-mod field;
 mod held;
-mod here;
-mod laws;
-mod lists;
-mod optic;
-mod side;
-mod then;
 
 pub use any_optic::{AnyOptic, OpticBox};
 pub use any_residue::AnyResidue;
-pub use case::{CaseOf, CaseRest};
-pub use cross::{Cross, CrossRest};
-pub use each::{Each, EachRest};
-pub use field::{FieldAt, Hole, MayField, MayRest};
-pub use here::{Here, HereRest};
-pub use laws::{
-    can_rejoin, foci_compose, frame_determines, join_is_over, over_reads, parted_rejoins,
-    rejoined_parts, rest_is_frame,
+pub use mig_path::{
+    Counter, Here, HereRest, Memory, Name, Optic, Side, SideRest, Value, can_rejoin, foci_compose,
+    frame_determines, join_is_over, over_reads, parted_rejoins, rejoined_parts, rest_is_frame,
 };
-pub use mig_value::{Counter, Memory, Name, Value};
-pub use optic::Optic;
-pub use side::{Side, SideRest};
-pub use then::{Then, ThenRest};
+pub use mig_record_optic::{CaseOf, CaseRest, FieldAt, Hole, MayField, MayRest};
+pub use mig_typed_optic::{Cross, CrossRest, Each, EachRest, Then, ThenRest};

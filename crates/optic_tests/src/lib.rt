@@ -1,9 +1,9 @@
-//! Tests of optics: each one parts a value and rejoins the residue with other foci, as itself and as an `AnyOptic`.
+//! Tests of optics: a chain of them parts a list of nodes and rejoins the residue with other foci, by its own type and as an `AnyOptic`.
 #![tactic(auto)]
 
 #[cfg(test)]
-mod tests;
+mod chains;
 #[cfg(test)]
-mod trials;
+mod tests;
 #[cfg(test)]
 mod values;

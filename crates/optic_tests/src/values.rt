@@ -1,43 +1,45 @@
 //! Values by what is in them. Want of memory ends the test at once, so that no value is let go on the way.
-ghost use Rattle.std.specs.Prelude.{◌≡◌, ◌∷◌, [], Some, None};
+ghost use Rattle.std.specs.Prelude.{◌≡◌, ◌∷◌, []};
 ghost use Rattle.mig_model.specs.Plain as plain;
-ghost use Rattle.mig_value.specs.Typed.{atom, rec, slot, no_slot};
+ghost use Rattle.mig_value.specs.Typed.{atom, left, right, point};
 ghost use Rattle.mig_value.specs.View.{typed_of};
-ghost use Rattle.mig_optic.specs.Path.{Takes, each, cross};
+ghost use Rattle.mig_path.specs.Path.{Takes};
+ghost use Rattle.optic_tests.specs.Chain.{chain, case_value, full_node, bare_node};
 
 use mig_optic::{Name, Value};
-use mig_value::{Node, RecValue, Slot, Slots, Text, Tree, Values};
+use mig_value::{Node, RecValue, Slot, Slots, Text, Tree, ValueBox, Values};
 use std::alloc::Global;
 use std::process::Abort;
 
 /// What a test says where memory is wanting.
 pub const MEMORY: &str = "out of memory";
 
+/// The name of these bytes.
 pub fn name(rt: &impl Abort, alloc: Global, bytes: &[u8]) -> Name
     ensures { result ≡ bytes.now }
 {
     Name::new(alloc, bytes).expect(rt, MEMORY)
 }
 
+/// The value of a number.
 pub fn int<'a>(number: i32) -> Value<'a>
     ensures { typed_of result ≡ atom (plain.int number) }
 {
     Value::Atom(Tree::Int(number))
 }
 
-pub fn ints<'a>(rt: &impl Abort, alloc: Global, numbers: &[i32]) -> Vec<Value<'a>> {
-    let mut list = Vec::new(alloc);
-    for number in numbers {
-        list.push(int(*number)).expect(rt, MEMORY);
-    }
-    list
+/// A number on the left side of a sum.
+fn on_left<'a>(rt: &impl Abort, alloc: Global, number: i32) -> Value<'a>
+    ensures { typed_of result ≡ left (atom (plain.int number)) }
+{
+    Value::Left(ValueBox::new(alloc, int(number)).expect(rt, MEMORY))
 }
 
-/// The list of these numbers.
-pub fn items<'a>(rt: &impl Abort, alloc: Global, numbers: &[i32]) -> Value<'a>
-    ensures { Takes each (typed_of result) }
+/// A number on the right side of a sum.
+fn on_right<'a>(rt: &impl Abort, alloc: Global, number: i32) -> Value<'a>
+    ensures { typed_of result ≡ right (atom (plain.int number)) }
 {
-    Value::List(Values::new(ints(rt, alloc, numbers)))
+    Value::Right(ValueBox::new(alloc, int(number)).expect(rt, MEMORY))
 }
 
 fn slot<'a>(name: &'static [u8], value: Value<'a>) -> Slot<'a>
@@ -50,40 +52,65 @@ fn slot<'a>(name: &'static [u8], value: Value<'a>) -> Slot<'a>
     }
 }
 
-/// A record value of the field `a` alone.
-pub fn of_a<'a>(rt: &impl Abort, alloc: Global, value: Value<'a>) -> Value<'a>
-    ensures { typed_of result ≡ rec (slot (97 ∷ []) (typed_of value.entry) no_slot) None no_slot no_slot }
+/// The list of one slot.
+fn slots<'a>(rt: &impl Abort, alloc: Global, name: &'static [u8], value: Value<'a>) -> Slots<'a>
+    ensures { result ≡ (name.now, typed_of value.entry) ∷ [] }
 {
-    let slots = vec![in alloc; slot(b"a", value)].expect(rt, MEMORY);
-    let fields = Slots::new(slots);
-    Value::Rec(RecValue::of_fields(fields))
+    let list = vec![in alloc; slot(name, value)].expect(rt, MEMORY);
+    Slots::new(list)
 }
 
-/// A record value of the fields `x` and `y`.
-pub fn of_xy<'a>(rt: &impl Abort, alloc: Global, x: i32, y: i32) -> Value<'a>
-    ensures { typed_of result ≡ rec (slot (120 ∷ []) (atom (plain.int x)) (slot (121 ∷ []) (atom (plain.int y)) no_slot)) None no_slot no_slot }
+/// A record value of this literal under the tag `t`, whose case has the field `a`.
+fn of_case<'a>(
+    rt: &impl Abort,
+    alloc: Global,
+    literal: &'static [u8],
+    value: Value<'a>,
+) -> Value<'a>
+    ensures { typed_of result ≡ case_value literal.now (typed_of value.entry) }
 {
-    let slots = vec![in alloc; slot(b"x", int(x)), slot(b"y", int(y))].expect(rt, MEMORY);
-    let fields = Slots::new(slots);
-    Value::Rec(RecValue::of_fields(fields))
-}
-
-/// A record value of the literal `l` under the tag `t`, whose case has the field `a`.
-pub fn of_case<'a>(rt: &impl Abort, alloc: Global, value: Value<'a>) -> Value<'a>
-    ensures { typed_of result ≡ rec no_slot (Some (116 ∷ [], 108 ∷ [])) (slot (97 ∷ []) (typed_of value.entry) no_slot) no_slot }
-{
-    let slots = vec![in alloc; slot(b"a", value)].expect(rt, MEMORY);
-    let cased = Slots::new(slots);
-    let fields = Slots::empty(alloc);
-    let rest = Slots::empty(alloc);
-    let tag = (Text::lent(b"t"), Text::lent(b"l"));
+    let cased = slots(rt, alloc, b"a", value);
+    let tag = (Text::lent(b"t"), Text::lent(literal));
+    let (fields, rest) = (Slots::empty(alloc), Slots::empty(alloc));
     Value::Rec(RecValue::new(alloc, fields, Some(tag), cased, rest).expect(rt, MEMORY))
 }
 
 /// A node of this body.
-pub fn node<'a>(rt: &impl Abort, alloc: Global, value: Value<'a>) -> Value<'a>
-    ensures { Takes cross (typed_of result) }
+fn node<'a>(rt: &impl Abort, alloc: Global, value: Value<'a>) -> Value<'a>
+    ensures { typed_of result ≡ point (110 ∷ []) (typed_of value.entry) }
 {
     let node = Node::new(name(rt, alloc, b"n"), value);
     Value::Point(Box::new(alloc, node).expect(rt, MEMORY))
+}
+
+/// A node whose body has this value under the name `m`.
+fn full<'a>(rt: &impl Abort, alloc: Global, value: Value<'a>) -> Value<'a>
+    ensures { typed_of result ≡ full_node (typed_of value.entry) }
+{
+    let fields = slots(rt, alloc, b"m", value);
+    node(rt, alloc, Value::Rec(RecValue::of_fields(fields)))
+}
+
+/// A node whose body has no field.
+fn bare<'a>(rt: &impl Abort, alloc: Global) -> Value<'a>
+    ensures { typed_of result ≡ bare_node }
+{
+    let fields = Slots::empty(alloc);
+    node(rt, alloc, Value::Rec(RecValue::of_fields(fields)))
+}
+
+/// A list of four nodes. The first has the number where the chain leads; the others are of the other side, of another case, and bare.
+pub fn nodes<'a>(rt: &impl Abort, alloc: Global, number: i32) -> Value<'a>
+    ensures { Takes chain (typed_of result) }
+{
+    let left = on_left(rt, alloc, number);
+    let right = on_right(rt, alloc, 2);
+    let focused = of_case(rt, alloc, b"l", left);
+    let sided = of_case(rt, alloc, b"l", right);
+    let cased = of_case(rt, alloc, b"k", int(3));
+    let first = full(rt, alloc, focused);
+    let second = full(rt, alloc, sided);
+    let third = full(rt, alloc, cased);
+    let list = vec![in alloc; first, second, third, bare(rt, alloc)].expect(rt, MEMORY);
+    Value::List(Values::new(list))
 }

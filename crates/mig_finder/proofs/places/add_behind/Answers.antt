@@ -1,7 +1,7 @@
 use Rattle.std.proofs.Common.{◌∙◌, ap}
 use Rattle.mig_template.specs.View.{template_of}
 use Rattle.mig_optic.specs.AnyView.{any_path}
-use Rattle.mig_optic.specs.Path.{Path, then_}
+use Rattle.mig_path.specs.Path.{Path, then_}
 use Rattle.mig_finder.proofs.Lists.{added_behind}
 use Rattle.mig_finder.proofs.places.add_behind.Goals as goal
 

@@ -2,7 +2,7 @@ use Rattle.std.proofs.Common.{◌+◌, ◌*◌, map}
 use Rattle.mig_value.specs.View.{typed_of}
 use Rattle.mig_optic.specs.AnyView.{any_path, group_pair}
 use Rattle.mig_optic.specs.Code.{path_size}
-use Rattle.mig_optic.proofs.Thens.{Parted}
+use Rattle.mig_typed_optic.proofs.Thens.{Parted}
 use Rattle.mig_optic.proofs.any_parts.+part.Given as goal
 
 abbrev pub decreases-part_any : goal.decreases-part_any

@@ -4,9 +4,10 @@ use Rattle.std.proofs.lemmas.Iterator.Consumers.{YieldsList-turn}
 use Rattle.mig_value.specs.View.{typed_of}
 use Rattle.mig_optic.specs.AnyView.{group_pair}
 use Rattle.mig_optic.specs.Code.{rest_size}
-use Rattle.mig_optic.specs.Rest.{Rest, both, groups_of, joins, Fits}
-use Rattle.mig_optic.proofs.Sequences.{length_more}
-use Rattle.mig_optic.proofs.Thens.{outer_fits, front_fits, smaller, rejoins_next}
+use Rattle.mig_path.specs.Rest.{Rest, both, groups_of, joins, Fits}
+use Rattle.std.proofs.lemmas.List.{length_push}
+use Rattle.mig_typed_optic.proofs.Thens.{outer_fits, front_fits, rejoins_next}
+use Rattle.mig_optic.proofs.Sizes.{smaller}
 use Rattle.mig_optic.proofs.any_parts.+rejoin.Goals as goal
 
 pub rejoin_any-rejoin_any-requires : goal.rejoin_any-rejoin_any-requires
@@ -30,4 +31,4 @@ rejoin_each-loop-group-preserved t c =
     let gives = c.into_iter-group-iterator.ensures.into_iter_gives in
     let turn = YieldsList-turn (YieldsList-from_vec {s = c.into_iter-group-iterator.result} c.args.groups.items gives.0 (◌∙◌ {b = c.args.groups.len} gives.1 c.args.groups.ok.0)) c.loop-group.yielded c.loop-group.group-iterator c.loop-group.yielded_by c.next.result c.next.new.self c.in-Some.group c.in-Some.is c.next.ensures.steps in
     rejoins_next group_pair c.args.groups.items _ c.loop-group.values.items c.push.new.self.items c.loop-group.reversed.items c.take_front.new.reversed.items c.in_ok-front.front.items c.in_ok-rejoin_any.field-0 (length c.loop-group.yielded) _ c.in-Some.group turn.0 turn.1
-    (length_more c.loop-group.yielded c.in-Some.group) c.in_ok-push.ensures.items c.in_ok-front.ensures.back c.in_ok-front.ensures.front c.in_ok-rejoin_any.ensures c.loop-group.invariant
+    (length_push c.loop-group.yielded c.in-Some.group) c.in_ok-push.ensures.items c.in_ok-front.ensures.back c.in_ok-front.ensures.front c.in_ok-rejoin_any.ensures c.loop-group.invariant

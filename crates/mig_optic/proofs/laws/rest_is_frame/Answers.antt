@@ -1,6 +1,0 @@
-use Rattle.mig_optic.specs.Fields.{null}
-use Rattle.mig_optic.proofs.Over.{join_over}
-use Rattle.mig_optic.proofs.laws.rest_is_frame.Goals as goal
-
-pub returns : goal.returns
-returns c o v t = join_over o (λ w. null) v t

@@ -1,0 +1,5 @@
+pub mod Fields
+pub mod Path
+pub mod Rest
+pub mod Laws
+pub mod Residues

@@ -1,8 +1,0 @@
-use Rattle.std.proofs.Common.{◌≡◌, ◌∷◌, [], rules}
-use Rattle.optic_tests.proofs.Samples.{one_name}
-use Rattle.optic_tests.proofs.values.of_a.Goals as goal
-
-pub new-fields-requires : goal.new-fields-requires
-new-fields-requires g c =
-    let made : c.expect-slots.result.items ≡ c.slot.result ∷ [] = search rules in
-    one_name c.expect-slots.result.items c.slot.result made

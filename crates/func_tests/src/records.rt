@@ -1,8 +1,11 @@
-//! Records by words.
+//! Records by words. Want of memory and a word that isn't known end the test at once, so that no template is let go on the way.
 use mig_schema::{Kind, Name, Template, TemplateBox};
 use mig_template::{Field, Presence, Record, Rest};
 use std::alloc::Global;
-use std::test::Fail;
+use std::process::Abort;
+
+/// What a test says where memory is wanting.
+pub const MEMORY: &str = "out of memory";
 
 /// What was built so far: templates, and the fields and the choice of the next record.
 #[derive(Drop)]
@@ -12,18 +15,29 @@ struct Builder {
     choice: Option<(Name, Vec<(Name, Vec<Field>)>, bool)>,
 }
 
+pub fn name_of(rt: &impl Abort, alloc: Global, bytes: &[u8]) -> Name {
+    Name::new(alloc, bytes).expect(rt, MEMORY)
+}
+
 /// A field of the template.
 pub fn field(
+    rt: &impl Abort,
     alloc: Global,
     name: &[u8],
     presence: Presence,
     template: Template,
-) -> Result<Field, Fail> {
-    Ok(Field {
-        name: Name::new(alloc, name)?,
+) -> Field {
+    let name = name_of(rt, alloc, name);
+    Field {
+        name,
         presence,
         template,
-    })
+    }
+}
+
+/// The template on the heap.
+fn boxed(rt: &impl Abort, alloc: Global, template: Template) -> TemplateBox {
+    TemplateBox::new(alloc, template).expect(rt, MEMORY)
 }
 
 impl Builder {
@@ -36,8 +50,8 @@ impl Builder {
     }
 
     /// The template that was made last.
-    fn last(&mut self) -> Result<Template, Fail> {
-        Ok(self.made.pop().ok_or("no template")?)
+    fn last(&mut self, rt: &impl Abort) -> Template {
+        self.made.pop().expect(rt, "no template")
     }
 
     /// The fields that stand there, which are then none.
@@ -46,100 +60,82 @@ impl Builder {
     }
 
     /// Adds a field of the template that was made last.
-    fn add_field(&mut self, alloc: Global, name: &[u8], presence: Presence) -> Result<(), Fail> {
-        let template = self.last()?;
-        self.fields.push(field(alloc, name, presence, template)?)?;
-        Ok(())
+    fn add_field(&mut self, rt: &impl Abort, alloc: Global, name: &[u8], presence: Presence) {
+        let template = self.last(rt);
+        let field = field(rt, alloc, name, presence, template);
+        self.fields.push(field).expect(rt, MEMORY);
     }
 
     /// Makes the fields that stand there a case of the literal.
-    fn add_case(&mut self, alloc: Global, tag: &[u8], literal: &[u8]) -> Result<(), Fail> {
+    fn add_case(&mut self, rt: &impl Abort, alloc: Global, tag: &[u8], literal: &[u8]) {
         let fields = self.take_fields(alloc);
-        let literal = Name::new(alloc, literal)?;
+        let literal = name_of(rt, alloc, literal);
         let (tag, mut cases, kept) = match self.choice.take() {
             Some(choice) => choice,
-            None => (Name::new(alloc, tag)?, Vec::new(alloc), false),
+            None => (name_of(rt, alloc, tag), Vec::new(alloc), false),
         };
-        cases.push((literal, fields))?;
+        cases.push((literal, fields)).expect(rt, MEMORY);
         self.choice = Some((tag, cases, kept));
-        Ok(())
     }
 
     /// Keeps unknown tags in the choice that stands there.
-    fn keep_unknown(&mut self) -> Result<(), Fail> {
-        match self.choice.take() {
-            Some((tag, cases, _)) => {
-                self.choice = Some((tag, cases, true));
-                Ok(())
-            }
-            None => Err("no choice")?,
-        }
+    fn keep_unknown(&mut self, rt: &impl Abort) {
+        let (tag, cases, _) = self.choice.take().expect(rt, "no choice");
+        self.choice = Some((tag, cases, true));
     }
 
-    /// The record of what stands there.
-    fn record(&mut self, alloc: Global, rest: Rest) -> Result<Record, Fail> {
+    /// A record of what stands there.
+    fn record(&mut self, rt: &impl Abort, alloc: Global, rest: Rest) {
         let fields = self.take_fields(alloc);
         let choice = self.choice.take();
-        Ok(Record::new(alloc, fields, choice, rest)?)
+        let record = Record::new(alloc, fields, choice, rest).expect(rt, "no record");
+        self.push(rt, Template::Rec(record));
     }
 
     /// A list of the template that was made last.
-    fn list(&mut self, alloc: Global) -> Result<Template, Fail> {
-        let part = self.last()?;
-        Ok(Template::List(TemplateBox::new(alloc, part)?))
+    fn list(&mut self, rt: &impl Abort, alloc: Global) {
+        let part = boxed(rt, alloc, self.last(rt));
+        self.push(rt, Template::List(part));
     }
 
     /// The sum of the two templates that were made last.
-    fn sum(&mut self, alloc: Global) -> Result<Template, Fail> {
-        let right = self.last()?;
-        let right = TemplateBox::new(alloc, right)?;
-        let left = self.last()?;
-        Ok(Template::Sum(TemplateBox::new(alloc, left)?, right))
+    fn sum(&mut self, rt: &impl Abort, alloc: Global) {
+        let right = boxed(rt, alloc, self.last(rt));
+        let left = boxed(rt, alloc, self.last(rt));
+        self.push(rt, Template::Sum(left, right));
     }
 
     /// Keeps what was made.
-    fn push(&mut self, made: Template) -> Result<(), Fail> {
-        self.made.push(made)?;
-        Ok(())
+    fn push(&mut self, rt: &impl Abort, made: Template) {
+        self.made.push(made).expect(rt, MEMORY);
     }
 
-    /// One word: a leaf kind or `any`; `list`, which takes a template; `or`, which takes two; `.x` and `?x` for a field, which has to be or may be there; `=ts`,
-    /// which makes the fields before it those of the case `s` of the tag `t`; `kept`, which keeps that choice's unknown tags; `open` and `closed`, which make a record of what stands before them.
-    fn word(&mut self, alloc: Global, word: &[u8]) -> Result<(), Fail> {
+    /// One word: a leaf kind or `any`; `list`, which takes a template; `or`, which takes two; `.x` and `?x` for a field, which has to be or may be there;
+    /// `=ts`, which makes the fields before it those of the case `s` of the tag `t`; `kept`, which keeps that choice's unknown tags; `open` and `closed`,
+    /// which make a record of what stands before them.
+    fn word(&mut self, rt: &impl Abort, alloc: Global, word: &[u8]) {
         match word {
-            b"whole" => self.push(Template::Leaf(Kind::Whole)),
-            b"text" => self.push(Template::Leaf(Kind::Text)),
-            b"any" => self.push(Template::Any),
-            b"list" => {
-                let list = self.list(alloc)?;
-                self.push(list)
-            }
-            b"or" => {
-                let sum = self.sum(alloc)?;
-                self.push(sum)
-            }
-            b"kept" => self.keep_unknown(),
-            b"open" => {
-                let record = self.record(alloc, Rest::Open)?;
-                self.push(Template::Rec(record))
-            }
-            b"closed" => {
-                let record = self.record(alloc, Rest::Closed)?;
-                self.push(Template::Rec(record))
-            }
-            [b'.', name @ ..] => self.add_field(alloc, name, Presence::Must),
-            [b'?', name @ ..] => self.add_field(alloc, name, Presence::May),
-            [b'=', tag, literal] => self.add_case(alloc, &[*tag], &[*literal]),
-            _ => Err("no such word")?,
+            b"whole" => self.push(rt, Template::Leaf(Kind::Whole)),
+            b"text" => self.push(rt, Template::Leaf(Kind::Text)),
+            b"any" => self.push(rt, Template::Any),
+            b"list" => self.list(rt, alloc),
+            b"or" => self.sum(rt, alloc),
+            b"kept" => self.keep_unknown(rt),
+            b"open" => self.record(rt, alloc, Rest::Open),
+            b"closed" => self.record(rt, alloc, Rest::Closed),
+            [b'.', name @ ..] => self.add_field(rt, alloc, name, Presence::Must),
+            [b'?', name @ ..] => self.add_field(rt, alloc, name, Presence::May),
+            [b'=', tag, literal] => self.add_case(rt, alloc, &[*tag], &[*literal]),
+            _ => panic!(rt; "no such word"),
         }
     }
 }
 
 /// The template that the words build.
-pub fn template(alloc: Global, words: &str) -> Result<Template, Fail> {
+pub fn template(rt: &impl Abort, alloc: Global, words: &str) -> Template {
     let mut builder = Builder::new(alloc);
     for word in words.split(' ') {
-        builder.word(alloc, word.as_bytes())?;
+        builder.word(rt, alloc, word.as_bytes());
     }
-    builder.last()
+    builder.last(rt)
 }

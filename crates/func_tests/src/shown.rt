@@ -1,48 +1,52 @@
 //! Trees as texts, to be compared.
+use crate::records::MEMORY;
 use mig_tree::Tree;
 use std::alloc::Global;
-use std::test::Fail;
+use std::process::Abort;
+
+/// Adds the bytes.
+fn add(rt: &impl Abort, text: &mut Vec<u8>, bytes: &[u8]) {
+    text.extend_from_slice(bytes).expect(rt, MEMORY);
+}
 
 /// Adds the tree to the text as JSON would write it; below so many levels it writes `_`.
-pub fn show(alloc: Global, tree: &Tree, levels: u8, text: &mut Vec<u8>) -> Result<(), Fail> {
+pub fn show(rt: &impl Abort, alloc: Global, tree: &Tree, levels: u8, text: &mut Vec<u8>) {
     if levels == 0 {
-        text.push(b'_')?;
-        return Ok(());
+        add(rt, text, b"_");
+        return;
     }
     match tree {
         Tree::Whole(number) => {
-            let number = format!(in alloc; "{number}")?;
-            text.extend_from_slice(number.as_bytes())?;
+            let number = format!(in alloc; "{number}").expect(rt, MEMORY);
+            add(rt, text, number.as_bytes());
         }
-        Tree::Text(found) => show_text(found.bytes(), text)?,
-        Tree::Null => text.extend_from_slice(b"null")?,
+        Tree::Text(found) => show_text(rt, found.bytes(), text),
+        Tree::Null => add(rt, text, b"null"),
         Tree::List(items) => {
-            text.push(b'[')?;
+            add(rt, text, b"[");
             for item in items.as_slice() {
-                show(alloc, item, levels - 1, text)?;
-                text.push(b',')?;
+                show(rt, alloc, item, levels - 1, text);
+                add(rt, text, b",");
             }
-            text.push(b']')?;
+            add(rt, text, b"]");
         }
         Tree::Map(entries) => {
-            text.push(b'{')?;
+            add(rt, text, b"{");
             for entry in entries.as_slice() {
-                show_text(entry.name.bytes(), text)?;
-                text.push(b':')?;
-                show(alloc, &entry.tree, levels - 1, text)?;
-                text.push(b',')?;
+                show_text(rt, entry.name.bytes(), text);
+                add(rt, text, b":");
+                show(rt, alloc, &entry.tree, levels - 1, text);
+                add(rt, text, b",");
             }
-            text.push(b'}')?;
+            add(rt, text, b"}");
         }
-        _ => text.push(b'!')?,
+        _ => add(rt, text, b"!"),
     }
-    Ok(())
 }
 
 /// Adds the text in quotes.
-fn show_text(bytes: &[u8], text: &mut Vec<u8>) -> Result<(), Fail> {
-    text.push(b'"')?;
-    text.extend_from_slice(bytes)?;
-    text.push(b'"')?;
-    Ok(())
+fn show_text(rt: &impl Abort, bytes: &[u8], text: &mut Vec<u8>) {
+    add(rt, text, b"\"");
+    add(rt, text, bytes);
+    add(rt, text, b"\"");
 }

@@ -1,4 +1,6 @@
+//! What each field function makes of a text, and where it doesn't fit.
 ghost use Rattle.std.specs.Prelude.{◌≡◌, ◌<◌, IsTrue, true};
+ghost use Rattle.mig_model.specs.declared.form.Form.TheVariants.{Json};
 ghost use Rattle.mig_model.specs.Family.{body, is_named};
 ghost use Rattle.mig_model.specs.Inhabits.{is_in_form};
 ghost use Rattle.mig_template.specs.Parts.{record_of};
@@ -7,10 +9,10 @@ ghost use Rattle.mig_value.specs.Fit.{Shape};
 ghost use Rattle.mig_value.specs.View.{typed_of};
 
 use crate::functions::function;
-use crate::records::template;
+use crate::records::{MEMORY, name_of, template};
 use crate::shown::show;
 use mig_func::{FieldFn, FuncFault};
-use mig_schema::{Family, Form, Name, Template, VersionPath};
+use mig_schema::{Family, Form, Template, VersionPath};
 use mig_template::Record;
 use mig_tree::{Memory, Steps, Tree};
 use mig_value::Value;
@@ -18,29 +20,26 @@ use std::alloc::Global;
 use std::marker::Brand;
 use std::process::Abort;
 use std::sync::ledger::{Blank, Ledger};
-use std::test::Fail;
 
 /// The value after the function, or none where that doesn't fit the record.
 fn applied<'a>(
+    rt: &impl Abort,
     alloc: Global,
     function: &'a FieldFn,
     on: &Record,
     value: Value<'a>,
-) -> Result<Option<Value<'a>>, FuncFault>
+) -> Option<Value<'a>>
     requires { Shape (record_of on.now) (typed_of value) }
 {
     match function.target(alloc, on) {
         Ok(record) => {
             drop(record);
-            Ok(Some(function.apply(alloc, on, value)?))
+            Some(function.apply(alloc, on, value).expect(rt, MEMORY))
         }
-        Err(FuncFault::Misfit) => {
+        Err(fault) => {
+            assert_eq!(rt; fault, FuncFault::Misfit);
             drop(value);
-            Ok(None)
-        }
-        Err(FuncFault::Memory) => {
-            drop(value);
-            Err(FuncFault::Memory)
+            None
         }
     }
 }
@@ -60,86 +59,88 @@ fn write_alone<'a, L: Ledger>(
 }
 
 /// The tree of the value.
-fn written<'a>(alloc: Global, value: Value<'a>) -> Result<Tree<'a>, Memory> {
-    write_alone::<Brand>(alloc, value, Blank::new(1))
+fn written<'a>(rt: &impl Abort, alloc: Global, value: Value<'a>) -> Tree<'a> {
+    write_alone::<Brand>(alloc, value, Blank::new(1)).expect(rt, MEMORY)
 }
 
 /// The family of the one type `p`.
-fn family_of(alloc: Global, body: Template) -> Result<Family, Fail> {
-    let mut types = Vec::new(alloc);
-    types.push((Name::new(alloc, b"p")?, body))?;
-    let name = Name::new(alloc, b"DataVersion")?;
-    let version = VersionPath::new(vec![in alloc; name]?).ok_or("no path")?;
-    let root = Name::new(alloc, b"p")?;
-    Ok(Family::new(alloc, Form::Json, version, types, root)?)
+fn family_of(rt: &impl Abort, alloc: Global, body: Template) -> Family {
+    let name = name_of(rt, alloc, b"DataVersion");
+    let path = vec![in alloc; name].expect(rt, MEMORY);
+    let version = VersionPath::new(path).expect(rt, "no path");
+    let root = name_of(rt, alloc, b"p");
+    let types = vec![in alloc; (name_of(rt, alloc, b"p"), body)].expect(rt, MEMORY);
+    Family::new(alloc, Form::Json, version, types, root).expect(rt, "no family")
+}
+
+/// The root's record.
+fn root_record<'f>(rt: &impl Abort, family: &'f Family) -> &'f Record
+    ensures { body family.now family.now.root ≡ record_of result.now }
+{
+    if let Some(Template::Rec(record)) = family.body(family.root()) {
+        return record;
+    }
+    panic!(rt; "no record")
 }
 
 /// What the function makes of the tree, which is read by the family's root; `-` where it doesn't fit the root's record.
-fn outcome_of<'a>(
+fn outcome<'a>(
+    rt: &impl Abort,
     alloc: Global,
     family: &Family,
     function: &'a FieldFn,
     tree: Tree<'a>,
-) -> Result<Vec<u8>, Fail>
+) -> Vec<u8>
     requires known { IsTrue (is_named family.now family.now.root) }
     requires form { is_in_form family.now.form (plain_of tree) ≡ true }
 {
-    let value = mig_codec::read(alloc, family, family.root(), tree)?;
-    let Some(Template::Rec(record)) = family.body(family.root()) else {
-        return Err("no record")?;
-    };
+    let record = root_record(rt, family);
+    let value = mig_codec::read(alloc, family, family.root(), tree).expect(rt, "an unfit tree");
     let mut text = Vec::new(alloc);
-    match applied(alloc, function, record, value)? {
-        Some(value) => show(alloc, &written(alloc, value)?, 9, &mut text)?,
-        None => text.push(b'-')?,
+    match applied(rt, alloc, function, record, value) {
+        Some(value) => show(rt, alloc, &written(rt, alloc, value), 9, &mut text),
+        None => text.push(b'-').expect(rt, MEMORY),
     }
-    Ok(text)
+    text
 }
 
-/// The same, of a JSON text, by a copy of the function.
-fn outcome(
+/// The family is of JSON, and its root one of its types.
+fn check_family(rt: &impl Abort, family: &Family)
+    ensures known { IsTrue (is_named family.now family.now.root) }
+    ensures form { family.now.form ≡ Json }
+{
+    assert!(rt; family.form() == Form::Json);
+    assert!(rt; family.is_named(family.root()));
+}
+
+/// The function makes this of the JSON text.
+fn check_text(
+    rt: &impl Abort,
     alloc: Global,
     family: &Family,
     function: &FieldFn,
-    text: &[u8],
-) -> Result<Vec<u8>, Fail> {
-    if family.form() != Form::Json || !family.is_named(family.root()) {
-        return Err("another family")?;
-    }
-    let document = mig_json::parse(alloc, text)?;
-    let tree = document.tree(alloc)?;
-    let copy = function.copy(alloc)?;
-    outcome_of(alloc, family, &copy, tree)
-}
-
-/// The same, of the record of these words, and the function of these words in the scope of the literal.
-fn outcome_in_words(
-    alloc: Global,
-    record: &str,
-    literal: &str,
-    words: &str,
-    text: &[u8],
-) -> Result<Vec<u8>, Fail> {
-    let family = family_of(alloc, template(alloc, record)?)?;
-    let function = function(alloc, literal, words)?;
-    outcome(alloc, &family, &function, text)
+    text: &str,
+    want: &str,
+) {
+    check_family(rt, family);
+    let document = mig_json::parse(alloc, text.as_bytes()).expect(rt, "no JSON");
+    let tree = document.tree(alloc).expect(rt, MEMORY);
+    let copy = function.copy(alloc).expect(rt, MEMORY);
+    let found = outcome(rt, alloc, family, &copy, tree);
+    assert_eq!(rt; found.as_slice(), want.as_bytes());
 }
 
 /// Each row: the record, the literal of the scope, the function, a text, and what comes of it.
-fn check(
-    rt: &impl Abort,
-    alloc: Global,
-    table: &[(&str, &str, &str, &str, &str)],
-) -> Result<(), Fail> {
+fn check(rt: &impl Abort, alloc: Global, table: &[(&str, &str, &str, &str, &str)]) {
     for (record, literal, words, text, want) in table {
-        let found = outcome_in_words(alloc, record, literal, words, text.as_bytes())?;
-        assert_eq!(rt; found.as_slice(), want.as_bytes());
+        let family = family_of(rt, alloc, template(rt, alloc, record));
+        let function = function(rt, alloc, literal, words);
+        check_text(rt, alloc, &family, &function, text, want);
     }
-    Ok(())
 }
 
 #[test]
-fn names_change(rt: HostRuntime) -> Result<(), Fail> {
+fn names_change(rt: HostRuntime) {
     check(
         &rt,
         rt.alloc(),
@@ -183,11 +184,11 @@ fn names_change(rt: HostRuntime) -> Result<(), Fail> {
             ),
             ("whole .x open", "", "add x", r#"{"x":1}"#, "-"),
         ],
-    )
+    );
 }
 
 #[test]
-fn fields_are_learned_and_forgotten(rt: HostRuntime) -> Result<(), Fail> {
+fn fields_are_learned_and_forgotten(rt: HostRuntime) {
     check(
         &rt,
         rt.alloc(),
@@ -223,11 +224,11 @@ fn fields_are_learned_and_forgotten(rt: HostRuntime) -> Result<(), Fail> {
             ),
             ("whole ?x closed", "", "maybe x", "{}", "-"),
         ],
-    )
+    );
 }
 
 #[test]
-fn leaves_change(rt: HostRuntime) -> Result<(), Fail> {
+fn leaves_change(rt: HostRuntime) {
     check(
         &rt,
         rt.alloc(),
@@ -258,11 +259,11 @@ fn leaves_change(rt: HostRuntime) -> Result<(), Fail> {
             ),
             ("text whole or .x open", "", "unify x", r#"{"x":7}"#, "-"),
         ],
-    )
+    );
 }
 
 #[test]
-fn fields_nest(rt: HostRuntime) -> Result<(), Fail> {
+fn fields_nest(rt: HostRuntime) {
     check(
         &rt,
         rt.alloc(),
@@ -297,11 +298,11 @@ fn fields_nest(rt: HostRuntime) -> Result<(), Fail> {
                 "-",
             ),
         ],
-    )
+    );
 }
 
 #[test]
-fn choices_change(rt: HostRuntime) -> Result<(), Fail> {
+fn choices_change(rt: HostRuntime) {
     check(
         &rt,
         rt.alloc(),
@@ -361,5 +362,5 @@ fn choices_change(rt: HostRuntime) -> Result<(), Fail> {
                 r#"{"t":"q","y":3,}"#,
             ),
         ],
-    )
+    );
 }

@@ -7,7 +7,7 @@ use Rattle.mig_model.specs.Inhabits.{may_be_items, is_in_form, items_in_form, en
 use Rattle.mig_tree.specs.View.{plain_of, entry_of}
 use Rattle.mig_tree.specs.declared.tree.Tree.{Tree}
 use Rattle.mig_tree.specs.declared.entries.Entry.{Entry}
-use Rattle.mig_laws.proofs.Tests.{split_and}
+use Rattle.mig_model.proofs.Bools.{split_and}
 
 item_of_form : (form : Form) (xs rest : List Tree) (x : Tree) → items_in_form form (trees_of (map plain_of (xs ++ x ∷ rest))) ≡ true → is_in_form form (plain_of x) ≡ true
 item_of_form form [] rest x e = (split_and (is_in_form form (plain_of x)) (items_in_form form (trees_of (map plain_of rest))) e).0

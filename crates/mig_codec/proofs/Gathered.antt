@@ -10,10 +10,10 @@ use Rattle.mig_value.specs.Typed.{Typed, items_of, slots_of, out_items, out_slot
 use Rattle.mig_value.specs.Nodes.{Test, nodes_in_items, sum_items, sum_entries}
 use Rattle.mig_value.specs.Parts.{RecordParts}
 use Rattle.mig_value.specs.Fit.{EachItem, EachSlot, FieldsFit, FitAsRead, IsAtomOf}
-use Rattle.mig_codec.specs.Lists.{record_nodes}
+use Rattle.mig_write.specs.Lists.{record_nodes}
 use Rattle.mig_codec.specs.Parted.{wrong_pair, pair_nodes, is_tagged}
 use Rattle.mig_codec.specs.Reading.{IsTyped, wrong_part, part_nodes}
-use Rattle.mig_codec.specs.Row.{Row, Belongs, common, cased, unknown, belongs}
+use Rattle.mig_row.specs.Row.{Row, Belongs, common, cased, unknown, belongs}
 use Rattle.std.specs.Prelude.{Bool, true, false}
 
 pub record GatheredItems (f : Family) (V : Template) (ts : List Plain) (vs : List Typed) : Type 0 where

@@ -10,11 +10,8 @@ use Rattle.mig_value.specs.Fit.{EachItem}
 use Rattle.mig_value.specs.Nodes.{Test, nodes, nodes_in_items, sum_items}
 use Rattle.mig_codec.specs.Reading.{IsRead, AreRead, IsTyped, wrong_part, part_nodes}
 use Rattle.mig_codec.proofs.Gathered.{GatheredItems}
-use Rattle.mig_codec.proofs.Loops.{item_more}
-
-or_none : (a b : Option Place) → or_else a b ≡ None → (a ≡ None) × (b ≡ None)
-or_none None b e = (refl, e)
-or_none (Some p) b e = absurd cc
+use Rattle.mig_write.proofs.Loops.{item_more}
+use Rattle.mig_laws.proofs.Exact.{or_none}
 
 abbrev at_index : ℕ → Option Place → Option Place
 at_index j o = option_map (λ p. index j ∷ p) o

@@ -1,12 +1,9 @@
-pub mod Belonging
 pub mod Forms
 pub mod Gathered
 pub mod ItemLoop
-pub mod Loops
 pub mod Measures
-pub mod Musts
 pub mod NodesOf
-pub mod Pairs
+pub mod PairLoop
 pub mod PartsOf
 pub mod ReadOf
 pub mod RowEnd

@@ -20,7 +20,6 @@ use Rattle.mig_model.specs.Inhabits.{Entries}
 use Rattle.mig_model.specs.Fields.{is_field, find_field}
 use Rattle.mig_model.specs.Family.{Family, body, has_twice, IsFormed}
 use Rattle.mig_laws.specs.Sides.{is_side, AreSides, SumsApart, FieldsApart, ChoiceApart, CasesApart}
-use Rattle.mig_laws.proofs.Tests.{split_and, split_or, same_name_is, same_name_itself, same_kind_itself}
 use Rattle.mig_laws.proofs.Formed.{body_apart}
 use Rattle.mig_laws.proofs.Reading.{tag_is}
 use Rattle.mig_template.specs.Parts.{is_among, has_twice_in, is_twice_in, is_twice_named, cases_in}
@@ -34,12 +33,16 @@ use Rattle.mig_value.specs.Kept.{IsKept, ItemsKept, SlotsKept}
 use Rattle.mig_value.specs.Nodes.{Test, count, nodes, nodes_in_items, nodes_in_slots, sum_items, sum_entries, tally, tally_fields, tally_choice, tally_cases, tree_nodes}
 use Rattle.mig_value.proofs.Orders.{in_order_named}
 use Rattle.mig_codec.specs.Laws.{BodiesKept, NodesByTree}
-use Rattle.mig_codec.specs.Lists.{pairs_in}
-use Rattle.mig_codec.proofs.Pairs.{has_order}
-use Rattle.mig_codec.proofs.RowEnd.{among_other, or_false}
-use Rattle.mig_codec.proofs.RowLoop.{not_itself}
+use Rattle.mig_write.specs.Lists.{pairs_in}
+use Rattle.mig_write.proofs.Pairs.{has_order}
+use Rattle.mig_codec.proofs.RowEnd.{or_false}
 use Rattle.mig_codec.proofs.RowNodes.{other_tally}
 use Rattle.mig_codec.proofs.Tally.{Count, record_tally, body_nodes}
+use Rattle.mig_model.proofs.Bools.{split_and, split_or, right_or, left_or}
+use Rattle.mig_model.proofs.SameNames.{same_name_is, same_name_itself, same_kind_itself}
+use Rattle.mig_value.proofs.Views.{slots_whole}
+use Rattle.mig_model.proofs.OneOrder.{not_itself}
+use Rattle.mig_template.proofs.Names.{apart_from_first}
 
 -- ---- sums over pairs
 sum_as : (g : Count) (es : Entries) → sum_by (λ (e : List ℕ × Plain). g e.0 e.1) es ≡ sum_entries g es
@@ -104,7 +107,7 @@ case_named U P others l (case m fs cs) n v once h =
     not_true false k = refl
 
     by : (b : Bool) → MatchBool b (FieldsFit U P fs n v) (CasesFit U P l cs n v) → has_twice (keys_of (field_list fs) ++ others) ≡ false → (CasesFit U P l cs n v → is_among others n ≡ false) → is_among others n ≡ false
-    by true k apart rest = not_true (is_among others n) (λ i. absurd (true≢false (sym (fields_named U P fs n v k) ∙ among_other (keys_of (field_list fs)) others n apart i)))
+    by true k apart rest = not_true (is_among others n) (λ i. absurd (true≢false (sym (fields_named U P fs n v k) ∙ apart_from_first (keys_of (field_list fs)) others n apart i)))
     by false k apart rest = rest k
 
 not_field : (fs : Fields) (n : List ℕ) → is_field n fs ≡ false → find_field n fs ≡ None
@@ -115,12 +118,6 @@ not_field fs n = by (find_field n fs)
     by (Some s) e = absurd (true≢false e)
 
 -- ---- the kind of a value's tree tells the side
-left_or : (a b : Bool) → a ≡ true → (a || b) ≡ true
-left_or a b e = ap (λ c. c || b) e
-
-right_or : (a b : Bool) → b ≡ true → (a || b) ≡ true
-right_or true b e = refl
-right_or false b e = e
 
 value_kind : (form : Form) (P : List ℕ → Typed → Type 0) (V : Template) (v : Typed) → is_side V ≡ true → Fits (IsAtomOf form) P V v → has_kind form V (kind_of (out v)) ≡ true
 value_kind form P (template.leaf k) (typed.atom t) s h = ap (same_kind k) h ∙ same_kind_itself k
@@ -138,10 +135,6 @@ value_kind form P (template.sum V W) v s h = absurd h
 match_is : (b : Bool) (A B : Type 0) {x y z : ℕ} → (A → x ≡ z) → (B → y ≡ z) → MatchBool b A B → (if b then x else y) ≡ z
 match_is true A B f g m = f m
 match_is false A B f g m = g m
-
-slots_back : (ss : Slots) → slots_of (slots ss) ≡ ss
-slots_back no_slot = refl
-slots_back (slot n v ss) = ap (slot n v) (slots_back ss)
 
 module _ (form : Form) (q : Test) (T : Count) (P : List ℕ → Typed → Type 0) (known : (n : List ℕ) (v : Typed) → P n v → IsKept v → nodes q v ≡ T n (out v)) where
   abbrev U : Typed → Type 0
@@ -187,7 +180,7 @@ module _ (form : Form) (q : Test) (T : Count) (P : List ℕ → Typed → Type 0
     given = record { fields = slots ss; tag = tag; cased = slots cs; rest = slots rs }
 
     all_is : pairs_in given ≡ all
-    all_is = λ i. out_slots (slots_back ss i) ++ (tag_pair tag ++ (out_slots (slots_back cs i) ++ out_slots (slots_back rs i)))
+    all_is = λ i. out_slots (slots_whole ss i) ++ (tag_pair tag ++ (out_slots (slots_whole cs i) ++ out_slots (slots_whole rs i)))
 
     ordered : values.IsRecord given → IsPermutation all (in_order all) × IsNamed (in_order all)
     ordered k =
@@ -260,7 +253,7 @@ module _ (form : Form) (q : Test) (T : Count) (P : List ℕ → Typed → Type 0
       both_in = split_or (list_any (has_twice_in (tag ∷ keys_of (field_list fs))) (case_list ds)) (has_twice (keys_of (case_list ds))) both.1
 
       no_tag : (n : List ℕ) (v : Typed) → FieldsFit U P fs n v → same_name n tag ≡ false
-      no_tag n v f = or_false (same_name n tag) (among_other (tag ∷ []) (keys_of (field_list fs)) n both.0 (fields_named U P fs n v f))
+      no_tag n v f = or_false (same_name n tag) (apart_from_first (tag ∷ []) (keys_of (field_list fs)) n both.0 (fields_named U P fs n v f))
 
       beside_tag : (n : List ℕ) (t : Plain) → same_name n tag ≡ false → there n t ≡ tally_fields form at_point fs cases n t
       beside_tag n t e = λ i. if e i then 0 else tally_fields form at_point fs cases n t

@@ -8,9 +8,9 @@ use Rattle.mig_model.specs.Family.{Family, unguarded, find_type, any_inside, any
 use Rattle.mig_template.specs.Parts as parts
 use Rattle.mig_template.specs.Parts.{RecordParts, found_field, found_case, choice_of, record_of}
 use Rattle.mig_template.specs.Size.{template_size, fields_size, choice_size, cases_size}
-use Rattle.mig_laws.proofs.Tests.{split_or}
 use Rattle.mig_laws.proofs.Formed.{no_flaw}
 use Rattle.mig_codec.specs.Reading.{IsPart, types_size}
+use Rattle.mig_model.proofs.Bools.{split_or}
 
 pub list_part : (f : Family) (V : Template) → IsPart f (list V) → IsPart f V
 list_part f V p = record { size = omega (arith, p.size); guarded = p.guarded }

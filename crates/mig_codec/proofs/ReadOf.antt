@@ -15,7 +15,6 @@ use Rattle.mig_model.specs.Family.{Family, find_type, body, IsFormed}
 use Rattle.mig_model.specs.Place.{Place, Wrong, named, sooner, under, at_name, wrong_item, wrong_entry, place}
 use Rattle.mig_laws.proofs.Laws.{place_unfolds}
 use Rattle.mig_laws.proofs.Reading.{wrong_left, wrong_right}
-use Rattle.mig_laws.proofs.Tests.{same_name_is, same_name_itself}
 use Rattle.mig_template.specs.Parts as parts
 use Rattle.mig_value.specs.Typed as typed
 use Rattle.mig_value.specs.Typed.{Typed, items_of}
@@ -25,14 +24,16 @@ use Rattle.mig_value.specs.Nodes.{count, sum_items}
 use Rattle.mig_value.proofs.Fits.{fit_unfolds}
 use Rattle.mig_codec.specs.Parted.{HasTag, TagAt, IsRowRead, wrong_pair, wrong_row, below_name}
 use Rattle.mig_codec.specs.Reading.{AreRead, IsRead, IsNodeRead, IsTyped, wrong_part, part_nodes}
-use Rattle.mig_codec.specs.Row.{Row, tagged, belongs, is_tag, missing_in}
-use Rattle.mig_codec.specs.RowView.{earlier, or_first}
-use Rattle.mig_codec.proofs.Belonging.{tagged_found}
-use Rattle.mig_codec.proofs.RowLoop.{right_more, less_than, not_itself}
+use Rattle.mig_row.specs.Row.{Row, tagged, belongs, is_tag, missing_in}
+use Rattle.mig_row.specs.RowView.{earlier, or_first}
+use Rattle.mig_row.proofs.Belonging.{tagged_found}
+use Rattle.mig_codec.proofs.RowLoop.{right_more, less_than}
 use Rattle.mig_codec.proofs.RowOf.{RowCase, wrong_as_row}
 use Rattle.mig_codec.proofs.RowNodes.{row_nodes}
 use Rattle.mig_codec.proofs.RowTyped.{row_typed}
 use Rattle.mig_codec.proofs.Tally.{body_nodes}
+use Rattle.mig_model.proofs.SameNames.{same_name_is, same_name_itself}
+use Rattle.mig_model.proofs.OneOrder.{not_itself}
 
 -- a list
 pub list_stops : (f : Family) (V : Template) (ts : List Plain) → wrong_item (wrong_part f V) 0 ts ≡ wrong_part f (list V) (plain.list (trees_of ts))

@@ -15,19 +15,21 @@ use Rattle.mig_model.specs.declared.presence.Presence.{Presence}
 use Rattle.mig_model.specs.Template.{Template, Field, fields_of, same_name, is_must}
 use Rattle.mig_template.specs.Parts.{found_field, is_among}
 use Rattle.mig_template.proofs.Found.{among_is_found}
-use Rattle.mig_template.proofs.Names.{keys_moved}
+use Rattle.mig_template.proofs.Names.{keys_moved, apart_from_first}
 use Rattle.mig_template.proofs.Sorted.{once_if_ascends}
 use Rattle.mig_value.specs.Typed.{in_order}
 use Rattle.mig_value.specs.Parts.{RecordParts, IsRecord}
 use Rattle.mig_value.proofs.Orders.{in_order_named}
-use Rattle.mig_laws.proofs.Tests.{split_or, same_name_is, same_name_itself}
-use Rattle.mig_codec.specs.Lists.{pairs_in}
+use Rattle.mig_write.specs.Lists.{pairs_in}
 use Rattle.std.specs.Ordering.{is_lt}
 use Rattle.mig_codec.specs.Parted.{IsRow, IsRowRead, is_tagged, tag_names}
-use Rattle.mig_codec.specs.Row.{Row, Belongs, common, tagged, cased, unknown, is_tag, belongs, missing_in}
-use Rattle.mig_codec.proofs.Belonging.{by_tests}
+use Rattle.mig_row.specs.Row.{Row, Belongs, common, tagged, cased, unknown, is_tag, belongs, missing_in}
+use Rattle.mig_row.proofs.Belonging.{by_tests}
 use Rattle.mig_codec.proofs.Gathered.{Gathered, those, is_common, is_cased, is_unknown}
-use Rattle.mig_codec.proofs.Pairs.{slot_keys, pair_keys}
+use Rattle.mig_write.proofs.Pairs.{slot_keys, pair_keys}
+use Rattle.mig_model.proofs.Bools.{split_or}
+use Rattle.mig_model.proofs.SameNames.{same_name_is, same_name_itself}
+use Rattle.mig_laws.proofs.Exact.{sooner_none}
 
 -- pairs of some names ascend where all do
 all_those : (P : List ℕ → Type 0) (q : List ℕ × Plain → Bool) (es : Entries) → AllByRecursion P (keys_of es) → AllByRecursion P (keys_of (filter q es))
@@ -119,25 +121,6 @@ musts_there q row es (g ∷ fs) h e =
     by true k e' rest = (λ i. k i && rest e' i)
     by false k e' rest = absurd cc
 
--- names that stand once
-pub among_other : (ms ns : List (List ℕ)) (x : List ℕ) → has_twice (ms ++ ns) ≡ false → is_among ns x ≡ true → is_among ms x ≡ false
-among_other [] ns x h k = refl
-among_other (m ∷ ms) ns x h k =
-    let both = split_or (is_among (ms ++ ns) m) (has_twice (ms ++ ns)) h in
-    by (same_name x m) refl both.0 (among_other ms ns x both.1 k)
-  where
-    more : (ls : List (List ℕ)) → is_among ns m ≡ true → is_among (ls ++ ns) m ≡ true
-    more [] j = j
-    more (l ∷ ls) j = or_more (same_name m l) (is_among (ls ++ ns) m) (more ls j)
-      where
-        or_more : (a b : Bool) → b ≡ true → (a || b) ≡ true
-        or_more true b i = refl
-        or_more false b i = i
-
-    by : (b : Bool) → same_name x m ≡ b → is_among (ms ++ ns) m ≡ false → is_among ms x ≡ false → (same_name x m || is_among ms x) ≡ false
-    by true e a rest = absurd (true≢false (sym (more ms (subst (λ y. is_among ns y ≡ true) (same_name_is x m e) k)) ∙ a))
-    by false e a rest = λ i. e i || rest i
-
 once_behind : (ms ns : List (List ℕ)) → has_twice (ms ++ ns) ≡ false → has_twice ns ≡ false
 once_behind [] ns h = h
 once_behind (m ∷ ms) ns h = once_behind ms ns (split_or (is_among (ms ++ ns) m) (has_twice (ms ++ ns)) h).1
@@ -196,7 +179,7 @@ module _ (f : Family) (row : Row) (is : IsRow f row) where
   common_there n h =
       let once : has_twice (tag_names row.tag ++ keys_of row.fields) ≡ false = once_behind (keys_of row.cased) (tag_names row.tag ++ keys_of row.fields) is.apart in
       common_if (is_tag row.tag n) (found_field n row.fields) (found_field n row.cased)
-      (tag_apart n (among_other (tag_names row.tag) (keys_of row.fields) n once h)) (among_is_found n row.fields ∙ h)
+      (tag_apart n (apart_from_first (tag_names row.tag) (keys_of row.fields) n once h)) (among_is_found n row.fields ∙ h)
 
   not_true : (b : Bool) → (b ≡ true → ⊥) → b ≡ false
   not_true true h = absurd (h refl)
@@ -205,20 +188,11 @@ module _ (f : Family) (row : Row) (is : IsRow f row) where
   cased_there : All (λ n. is_cased (belongs row n) ≡ true) row.cased
   cased_there n h =
       let others = tag_names row.tag ++ keys_of row.fields in
-      let apart : is_among others n ≡ true → ⊥ = λ k. absurd (true≢false (sym h ∙ among_other (keys_of row.cased) others n is.apart k)) in
+      let apart : is_among others n ≡ true → ⊥ = λ k. absurd (true≢false (sym h ∙ apart_from_first (keys_of row.cased) others n is.apart k)) in
       cased_if (is_tag row.tag n) (found_field n row.fields) (found_field n row.cased)
       (not_true (is_tag row.tag n) (λ k. apart (or_last (tag_names row.tag) (keys_of row.fields) n (tag_among n k))))
       (not_true (is_some (found_field n row.fields)) (λ k. apart (or_front (tag_names row.tag) (keys_of row.fields) n (sym (among_is_found n row.fields) ∙ k))))
       (among_is_found n row.cased ∙ h)
-
-sooner_none : (a b : Wrong) → sooner a b ≡ None → (a ≡ None) × (b ≡ None)
-sooner_none None b e = (refl, e)
-sooner_none (Some a) None e = absurd cc
-sooner_none (Some a) (Some b) e = by (is_lt (by_bytes b.0 a.0)) e
-  where
-    by : (c : Bool) → (if c then Some b else Some a) ≡ None → (Some a ≡ None) × (Some b ≡ None)
-    by true e' = absurd cc
-    by false e' = absurd cc
 
 -- where no Must field is missing, the map is read
 pub row_end : (f : Family) (row : Row) (es : Entries) (p : RecordParts) → Gathered f row es p → IsNamed es → IsRow f row → missing_in row es ≡ None → IsRowRead f row es p

@@ -1,33 +1,46 @@
 -- The pairs of a map, read one after another.
-use Rattle.std.proofs.Common.{◌≡◌, ℕ, List, [], ◌∷◌, ◌++◌, Bool, true, false, Option, Some, None, IsTrue, refl, sym, ap, ap₂, ◌∙◌, subst, ◌+◌, arith}
+use Rattle.std.proofs.Common.{◌≡◌, ℕ, List, [], ◌∷◌, ◌++◌, Bool, true, false, Option, Some, None, IsTrue, MatchBool, refl, sym, ap, ap₂, ◌∙◌, subst, ◌+◌, arith}
 use Rattle.std.specs.Prelude.{if◌then◌else◌}
 use Rattle.std.specs.List.{AllByRecursion}
 use Rattle.std.specs.Map.{keys_of}
-use Rattle.std.specs.Ordering.{ordering_reverse}
-use Rattle.std.specs.declared.cmp.Ordering.TheVariants.{Less, Greater}
-use Rattle.std.proofs.lemmas.Cmp.{nat_list_cmp_total}
+use Rattle.std.specs.declared.cmp.Ordering.TheVariants.{Less}
 use Rattle.std.proofs.lemmas.Map.Keys.{sorted_head, sorted_tail}
 use Rattle.mig_model.specs.Names.{by_bytes, IsNamed}
 use Rattle.std.proofs.lemmas.List.Elements.{filter-append}
+use Rattle.mig_model.specs.declared.presence.Presence.{Presence}
+use Rattle.mig_template.specs.Parts.{found_field}
 use Rattle.mig_model.specs.Plain as plain
 use Rattle.mig_model.specs.Plain.{Plain}
 use Rattle.mig_model.specs.Inhabits.{Entries}
-use Rattle.mig_model.specs.Template.{Field, fields_of, is_open}
+use Rattle.mig_model.specs.Template.{Template, Field, fields_of, same_name, is_open}
 use Rattle.mig_model.specs.Family.{Family, body}
 use Rattle.mig_model.specs.Place.{Place, Wrong, at_name, unless, wrong_entry, place}
 use Rattle.mig_value.specs.Typed.{Typed, Slot, slots_of, out, out_slots, tag_pair}
 use Rattle.mig_value.specs.Nodes.{Test, nodes, sum_entries}
 use Rattle.mig_value.specs.Parts.{RecordParts}
-use Rattle.mig_value.specs.Fit.{EachSlot, FieldsFit, FitAsRead, IsAtomOf}
+use Rattle.mig_value.specs.Fit.{EachSlot, Fits, FieldsFit, FitAsRead, IsAtomOf}
 use Rattle.mig_value.specs.View.{typed_of, slot_of}
 use Rattle.mig_codec.specs.declared.pieces.Placed.{Placed}
 use Rattle.mig_codec.specs.declared.pieces.Placed.TheVariants as P
-use Rattle.mig_codec.specs.Lists.{slot_nodes, record_nodes}
+use Rattle.mig_write.specs.Lists.{slot_nodes, record_nodes}
 use Rattle.mig_codec.specs.Parted.{IsPlaced, added, wrong_pair, nodes_as, pair_nodes, is_tagged}
-use Rattle.mig_codec.specs.Row.{Row, Belongs, common, tagged, cased, unknown, belongs, is_tag, wrong_as}
-use Rattle.mig_laws.proofs.Tests.{same_name_is}
-use Rattle.mig_codec.proofs.Belonging.{common_found, cased_found, tagged_found, field_fits}
+use Rattle.mig_row.specs.Row.{Row, Belongs, common, tagged, cased, unknown, belongs, is_tag, wrong_as}
+use Rattle.mig_row.proofs.Belonging.{common_found, cased_found, tagged_found}
 use Rattle.mig_codec.proofs.Gathered.{Gathered, those, is_common, is_cased, is_unknown}
+use Rattle.mig_model.proofs.SameNames.{same_name_is}
+use Rattle.mig_model.proofs.OneOrder.{not_itself}
+
+abbrev found_if : Bool → Presence × Template → Option (Presence × Template) → Option (Presence × Template)
+found_if b s o = if b then Some s else o
+
+-- a value of a field's template is one of the fields
+pub field_fits : (U : Typed → Type 0) (P : List ℕ → Typed → Type 0) (n : List ℕ) (fs : List Field) (q : Presence) (V : Template) (v : Typed) → found_field n fs ≡ Some (q, V) → Fits U P V v → FieldsFit U P (fields_of fs) n v
+field_fits U P n [] q V v e s = absurd cc
+field_fits U P n (g ∷ fs) q V v e s = by (same_name n g.0) e (λ e'. field_fits U P n fs q V v e' s)
+  where
+    by : (b : Bool) → found_if b g.1 (found_field n fs) ≡ Some (q, V) → (found_field n fs ≡ Some (q, V) → FieldsFit U P (fields_of fs) n v) → MatchBool b (Fits U P g.1.1 v) (FieldsFit U P (fields_of fs) n v)
+    by true e' rest = let is : g.1 ≡ (q, V) = cc in subst (λ (r : Presence × Template). Fits U P r.1 v) (sym is) s
+    by false e' rest = rest e'
 
 -- slots, and one more
 slots_more : (ss : List Slot) (s : Slot) → out_slots (slots_of (ss ++ s ∷ [])) ≡ out_slots (slots_of ss) ++ (s.0, out s.1) ∷ []
@@ -60,9 +73,6 @@ right_more w (e ∷ es) rest n t h = let both = parts (w e.0 e.1) (wrong_entry w
 pub less_than : (es rest : Entries) (x n : List ℕ) (t : Plain) → AllByRecursion (λ y. by_bytes x y ≡ Less) (keys_of (es ++ (n, t) ∷ rest)) → by_bytes x n ≡ Less
 less_than [] rest x n t h = h.0
 less_than (e ∷ es) rest x n t h = less_than es rest x n t h.1
-
-pub not_itself : (x : List ℕ) → by_bytes x x ≡ Less → ⊥
-not_itself x a = let e : Less ≡ Greater = sym a ∙ nat_list_cmp_total.antisymm x x ∙ ap ordering_reverse a in absurd cc
 
 both_tags : (row : Row) (m n : List ℕ) → is_tag row.tag m ≡ true → is_tag row.tag n ≡ true → m ≡ n
 both_tags row m n = by row.tag

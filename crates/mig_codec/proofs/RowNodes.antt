@@ -22,7 +22,7 @@ use Rattle.mig_laws.proofs.Reading.{find_case, fields_of_list, tag_is}
 use Rattle.mig_value.specs.Nodes.{Test, count, tree_nodes, sum_entries, tally, tally_fields, tally_choice, tally_cases}
 use Rattle.mig_codec.specs.Parted.{nodes_as, pair_nodes}
 use Rattle.mig_codec.specs.Reading.{part_nodes}
-use Rattle.mig_codec.specs.Row.{Row, Belongs, tagged, unknown, in_case, in_fields}
+use Rattle.mig_row.specs.Row.{Row, Belongs, tagged, unknown, in_case, in_fields}
 use Rattle.mig_codec.proofs.RowOf.{RowCase, untagged, tagged_as, kept_as, found_case_of, no_case_of}
 use Rattle.mig_codec.proofs.Tally.{Count}
 

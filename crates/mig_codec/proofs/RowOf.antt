@@ -21,12 +21,12 @@ use Rattle.mig_template.specs.Parts as parts
 use Rattle.mig_template.specs.Parts.{RecordParts, found_field, found_case, choice_of, record_of, is_twice_named, is_twice_in, has_twice_in}
 use Rattle.mig_template.proofs.Views.{field_list_of, case_list_of}
 use Rattle.mig_laws.proofs.Reading.{find_case, wrong_field, wrong_other, wrong_if_tagged, wrong_if_not_tagged, no_literal, literal_is, literal_none, missing_case, missing_none_of, wrong_case, wrong_none_of}
-use Rattle.mig_laws.proofs.Tests.{split_or}
 use Rattle.mig_codec.specs.Parted.{IsRow, HasTag, wrong_pair, wrong_row}
 use Rattle.mig_codec.specs.Reading.{IsPart, wrong_part}
-use Rattle.mig_codec.specs.Row.{Row, Belongs, tagged, in_case, in_fields, unknown, wrong_as, row_of, with_choice, with_tag, with_case}
-use Rattle.mig_codec.specs.RowView.{tag_place}
+use Rattle.mig_row.specs.Row.{Row, Belongs, tagged, in_case, in_fields, unknown, wrong_as, row_of, with_choice, with_tag, with_case}
+use Rattle.mig_row.specs.RowView.{tag_place}
 use Rattle.mig_codec.proofs.PartsOf.{found_in, common_part, cased_part}
+use Rattle.mig_model.proofs.Bools.{split_or, right_or, left_or, both_false}
 
 -- the three ways in which there is a record at a map
 pub data RowCase (p : RecordParts) (es : Entries) (row : Row) : Type 0 where
@@ -142,16 +142,6 @@ found_case_of s cs ds e = ap (λ l. lookup (is_at (by_bytes s)) l) (case_list_of
 pub no_case_of : (s : List ℕ) (cs : List parts.Case) → found_in s cs ≡ None → find_case s (cases_of cs) ≡ None
 no_case_of s cs e = ap (λ l. lookup (is_at (by_bytes s)) l) (case_list_of cs) ∙ e
 
-or_left : (a b : Bool) → a ≡ true → (a || b) ≡ true
-or_left a b e = ap (λ c. c || b) e
-
-or_right : (a b : Bool) → b ≡ true → (a || b) ≡ true
-or_right true b e = refl
-or_right false b e = e
-
-neither : (a b : Bool) → a ≡ false → b ≡ false → (a || b) ≡ false
-neither a b e h = λ i. e i || h i
-
 abbrev wrong_pairs : Family → RecordParts → Entries → Option Place
 wrong_pairs f p es =
     wrong_map (fields_of p.fields) (choice_of p.choice) es (wrong_entry (wrong_choice f.form (place f) (choice_of p.choice) (wrong_fields f.form (place f) (fields_of p.fields)) p.rest es) es)
@@ -182,7 +172,7 @@ module _ (f : Family) (p : RecordParts) (es : Entries) where
       let there = found_case_of s c.1 ds e in
       let each = tagged_pairs c ds p.rest
       (λ n t. among f.form (place f) p.rest n t p.fields (in_case (found_field n ds)) (wrong_cases f.form (place f) c.0 (cases_of c.1) p.rest es) (wrong_case c.0 s es text f.form (place f) p.rest (cases_of c.1) ds there n t ∙ in_cases f.form (place f) p.rest n t ds)) in
-      wrong_if_tagged (fields_of p.fields) c.0 (cases_of c.1) c.2 es _ (or_left _ _ (literal_is c.0 s es text (cases_of c.1) ds there))
+      wrong_if_tagged (fields_of p.fields) c.0 (cases_of c.1) c.2 es _ (left_or _ _ (literal_is c.0 s es text (cases_of c.1) ds there))
       ∙ (λ i. under (sooner (each i) (sooner (missing (fields_of p.fields) es) (missing_case c.0 s es text (cases_of c.1) ds there i))))
 
   -- where the tag is kept, other names are right
@@ -191,7 +181,7 @@ module _ (f : Family) (p : RecordParts) (es : Entries) where
       let none = no_case_of s c.1 e in
       let each = tagged_pairs c [] Open
       (λ n t. among f.form (place f) Open n t p.fields unknown (wrong_cases f.form (place f) c.0 (cases_of c.1) p.rest es) (wrong_none_of c.0 s es text f.form (place f) p.rest (cases_of c.1) none n t)) in
-      wrong_if_tagged (fields_of p.fields) c.0 (cases_of c.1) c.2 es _ (or_right _ _ (kept_text c.0 s c.2 text kept))
+      wrong_if_tagged (fields_of p.fields) c.0 (cases_of c.1) c.2 es _ (right_or _ _ (kept_text c.0 s c.2 text kept))
       ∙ (λ i. under (sooner (each i) (sooner (missing (fields_of p.fields) es) (missing_none_of c.0 s es text (cases_of c.1) none i))))
     where
       kept_text : (tag l : List ℕ) (b : Bool) → found tag es ≡ Some (plain.text l) → b ≡ true → (b && has_text tag es) ≡ true
@@ -206,13 +196,13 @@ module _ (f : Family) (p : RecordParts) (es : Entries) where
   no_text : (c : parts.Cases) (o : Option Plain) → found c.0 es ≡ o → p.choice ≡ Some c → with_tag p c.0 c.2 o ≡ None → is_tagged c.0 (cases_of c.1) c.2 es ≡ false
   no_text c (Some (plain.text s)) h is e =
       let none = no_case c.2 (found_case s p.choice) e in
-      neither _ _ (literal_none c.0 s es h (cases_of c.1) (no_case_of s c.1 (sym (ap (found_case s) is) ∙ none.0))) (ap (λ b. b && has_text c.0 es) none.1)
+      both_false _ _ (literal_none c.0 s es h (cases_of c.1) (no_case_of s c.1 (sym (ap (found_case s) is) ∙ none.0))) (ap (λ b. b && has_text c.0 es) none.1)
     where
       no_case : (kept : Bool) (o : Option (List Field)) → with_case p c.0 kept o ≡ None → (o ≡ None) × (kept ≡ false)
       no_case kept (Some ds) k = absurd cc
       no_case true None k = absurd cc
       no_case false None k = (refl, refl)
-  no_text c o h is e = neither _ _ (no_literal c.0 (cases_of c.1) es (λ l. ap (is_text l) h)) (no_kept c.2 (ap is_some_text h))
+  no_text c o h is e = both_false _ _ (no_literal c.0 (cases_of c.1) es (λ l. ap (is_text l) h)) (no_kept c.2 (ap is_some_text h))
     where
       no_kept : (kept : Bool) → has_text c.0 es ≡ false → (kept && has_text c.0 es) ≡ false
       no_kept true k = k

@@ -18,19 +18,17 @@ use Rattle.mig_template.proofs.Views.{field_list_of}
 use Rattle.mig_value.specs.Typed.{Typed, Tag, Slots, no_slot, slot, slots_of, out_slots, tag_pair}
 use Rattle.mig_value.specs.Parts as values
 use Rattle.mig_value.specs.Fit.{EachSlot, FieldsFit, ChoiceFits, CasesFit, TagFits, has_literal, has_case_musts, has_cased_musts, is_field_of_case, IsUnknown, FitAsRead, IsAtomOf}
-use Rattle.mig_laws.proofs.Tests.{same_name_is, same_name_itself, both_true}
 use Rattle.mig_codec.specs.Parted.{IsRowRead, is_tagged}
 use Rattle.mig_codec.specs.Reading.{IsTyped}
-use Rattle.mig_codec.specs.Row.{Row, Belongs, tagged, unknown, belongs, is_tag, in_case, in_fields}
-use Rattle.mig_codec.proofs.Belonging.{unknown_found, tagged_found}
+use Rattle.mig_row.specs.Row.{Row, Belongs, tagged, unknown, belongs, is_tag, in_case, in_fields}
+use Rattle.mig_row.proofs.Belonging.{unknown_found, tagged_found}
 use Rattle.mig_codec.proofs.Gathered.{those}
 use Rattle.mig_codec.proofs.PartsOf.{found_in, case_if}
 use Rattle.mig_codec.proofs.RowEnd.{found_those}
 use Rattle.mig_codec.proofs.RowOf.{RowCase, untagged, tagged_as, kept_as}
-
-each_slot : (P Q : List ℕ → Typed → Type 0) → ((n : List ℕ) (v : Typed) → P n v → Q n v) → (ss : Slots) → EachSlot P ss → EachSlot Q ss
-each_slot P Q f no_slot e = tt
-each_slot P Q f (slot n v ss) e = (f n v e.0, each_slot P Q f ss e.1)
+use Rattle.mig_model.proofs.Bools.{both_true, both_false}
+use Rattle.mig_model.proofs.SameNames.{same_name_is, same_name_itself}
+use Rattle.mig_value.proofs.Views.{weaker_slots}
 
 -- a case that is found
 pub literal_there : (s : List ℕ) (cs : List parts.Case) (ds : List Field) → found_in s cs ≡ Some ds → has_literal s (cases_of cs) ≡ true
@@ -109,9 +107,6 @@ last_true : (a b : Bool) → IsTrue b → IsTrue (a || b)
 last_true true b e = refl
 last_true false b e = e
 
-or_none : (a b : Bool) → a ≡ false → b ≡ false → (a || b) ≡ false
-or_none a b h k = λ i. h i || k i
-
 abbrev text_at : List ℕ → List ℕ → Option Plain → Option Plain → Option Plain
 text_at tag m o u = if same_name tag m then o else u
 
@@ -162,9 +157,9 @@ module _ (f : Family) (p : RecordParts) (es : Entries) (r : values.RecordParts) 
     tt,
     and_true (has_musts (fields_of p.fields) (out_slots (slots_of r.fields))) true read.field_musts,
     read.fields,
-    each_slot (FieldsFit U P no_field) (ChoiceFits U P no_choice None) (λ n v h. absurd h) (slots_of r.cased) read.cased,
-    each_slot _ (IsUnknown U (fields_of p.fields) no_choice None p.rest)
-        (λ n v h. let out' = unknown_found row n h.0 in (or_none (is_field n (fields_of p.fields)) false (field_known n p.fields ∙ ap is_some out'.fields) refl, or_true (is_open p.rest) false h.1, h.2))
+    weaker_slots (FieldsFit U P no_field) (ChoiceFits U P no_choice None) (λ n v h. absurd h) (slots_of r.cased) read.cased,
+    weaker_slots _ (IsUnknown U (fields_of p.fields) no_choice None p.rest)
+        (λ n v h. let out' = unknown_found row n h.0 in (both_false (is_field n (fields_of p.fields)) false (field_known n p.fields ∙ ap is_some out'.fields) refl, or_true (is_open p.rest) false h.1, h.2))
         (slots_of r.rest) read.rest,
   )
     where
@@ -176,8 +171,8 @@ module _ (f : Family) (p : RecordParts) (es : Entries) (r : values.RecordParts) 
       → (is_field n (fields_of p.fields) || (same_name n c.0 || is_field_of_case n s (cases_of c.1))) ≡ false
   unknown_beside c s ds r' same n is =
       let out' = unknown_found (record { fields = p.fields; tag = Some c.0; cased = ds; rest = r' }) n is in
-      or_none (is_field n (fields_of p.fields)) (same_name n c.0 || is_field_of_case n s (cases_of c.1)) (field_known n p.fields ∙ ap is_some out'.fields)
-      (or_none (same_name n c.0) (is_field_of_case n s (cases_of c.1)) out'.tag (same n ∙ field_known n ds ∙ ap is_some out'.cases))
+      both_false (is_field n (fields_of p.fields)) (same_name n c.0 || is_field_of_case n s (cases_of c.1)) (field_known n p.fields ∙ ap is_some out'.fields)
+      (both_false (same_name n c.0) (is_field_of_case n s (cases_of c.1)) out'.tag (same n ∙ field_known n ds ∙ ap is_some out'.cases))
 
   in_tagged : (c : parts.Cases) (s : List ℕ) (ds : List Field) → found_in s c.1 ≡ Some ds → IsRowRead f (record { fields = p.fields; tag = Some c.0; cased = ds; rest = p.rest }) es r → RecordFits (Some c) (Some (c.0, s))
   in_tagged c s ds e read = (
@@ -185,8 +180,8 @@ module _ (f : Family) (p : RecordParts) (es : Entries) (r : values.RecordParts) 
     true_is (has_musts (fields_of p.fields) (out_slots (slots_of r.fields)) && has_case_musts s (cases_of c.1) (out_slots (slots_of r.cased)))
         (both_true (has_musts (fields_of p.fields) (out_slots (slots_of r.fields))) (has_case_musts s (cases_of c.1) (out_slots (slots_of r.cased))) read.field_musts (case_musts s c.1 ds (out_slots (slots_of r.cased)) e ∙ read.cased_musts)),
     read.fields,
-    each_slot (FieldsFit U P (fields_of ds)) (CasesFit U P s (cases_of c.1)) (cases_fit U P s c.1 ds e) (slots_of r.cased) read.cased,
-    each_slot _ (IsUnknown U (fields_of p.fields) (choice c.0 (cases_of c.1) c.2) (Some (c.0, s)) p.rest)
+    weaker_slots (FieldsFit U P (fields_of ds)) (CasesFit U P s (cases_of c.1)) (cases_fit U P s c.1 ds e) (slots_of r.cased) read.cased,
+    weaker_slots _ (IsUnknown U (fields_of p.fields) (choice c.0 (cases_of c.1) c.2) (Some (c.0, s)) p.rest)
         (λ n v h. (unknown_beside c s ds p.rest (λ m. case_field m s c.1 ds e) n h.0, or_true (is_open p.rest) (not (has_literal s (cases_of c.1))) h.1, h.2))
         (slots_of r.rest) read.rest,
   )
@@ -197,8 +192,8 @@ module _ (f : Family) (p : RecordParts) (es : Entries) (r : values.RecordParts) 
     true_is (has_musts (fields_of p.fields) (out_slots (slots_of r.fields)) && has_case_musts s (cases_of c.1) (out_slots (slots_of r.cased)))
         (both_true (has_musts (fields_of p.fields) (out_slots (slots_of r.fields))) (has_case_musts s (cases_of c.1) (out_slots (slots_of r.cased))) read.field_musts (no_musts s c.1 (out_slots (slots_of r.cased)) e)),
     read.fields,
-    each_slot (FieldsFit U P no_field) (CasesFit U P s (cases_of c.1)) (λ n v h. absurd h) (slots_of r.cased) read.cased,
-    each_slot _ (IsUnknown U (fields_of p.fields) (choice c.0 (cases_of c.1) c.2) (Some (c.0, s)) p.rest)
+    weaker_slots (FieldsFit U P no_field) (CasesFit U P s (cases_of c.1)) (λ n v h. absurd h) (slots_of r.cased) read.cased,
+    weaker_slots _ (IsUnknown U (fields_of p.fields) (choice c.0 (cases_of c.1) c.2) (Some (c.0, s)) p.rest)
         (λ n v h. (unknown_beside c s [] Open (λ m. no_case_field m s c.1 e) n h.0, last_true (is_open p.rest) (not (has_literal s (cases_of c.1))) (ap not (no_literal_there s c.1 e)), h.2))
         (slots_of r.rest) read.rest,
   )

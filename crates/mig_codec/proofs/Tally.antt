@@ -8,11 +8,12 @@ use Rattle.mig_model.specs.Template.{Template, leaf, any, list, point, rec, sum,
 use Rattle.mig_model.specs.Inhabits.{Entries, EachItem, EachEntry, has_tag, depth}
 use Rattle.mig_model.specs.Family.{Family, body, IsFormed}
 use Rattle.mig_laws.specs.Sides.{is_guarded}
-use Rattle.mig_laws.proofs.Tests.{split_and, if_agree}
+use Rattle.mig_laws.proofs.Tests.{if_agree}
 use Rattle.mig_laws.proofs.Parts.{PartsHave, PassesDown, depth_down, parts_below}
 use Rattle.mig_laws.proofs.Formed.{body_guarded}
 use Rattle.mig_value.specs.Nodes.{Test, count, sum_items, sum_list, sum_entries, sum_map, tally, tally_fields, tally_choice, tally_cases, tree_nodes_within, tree_nodes}
 use Rattle.mig_codec.specs.Reading.{part_nodes}
+use Rattle.mig_model.proofs.Bools.{split_and}
 
 -- what is counted at the trees at points
 abbrev pub Count : Type 0

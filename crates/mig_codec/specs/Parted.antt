@@ -22,8 +22,8 @@ use Rattle.mig_codec.specs.declared.pieces.Pieces.{Pieces}
 use Rattle.mig_codec.specs.declared.pieces.Placed.{Placed}
 use Rattle.mig_codec.specs.declared.pieces.Placed.TheVariants as P
 use Rattle.mig_codec.specs.declared.stop.Stop.{Stop}
-use Rattle.mig_codec.specs.Lists.{record_nodes, pairs_in}
-use Rattle.mig_codec.specs.Row.{Row, Belongs, common, tagged, cased, unknown, belongs, wrong_in, missing_in}
+use Rattle.mig_write.specs.Lists.{record_nodes, pairs_in}
+use Rattle.mig_row.specs.Row.{Row, Belongs, common, tagged, cased, unknown, belongs, wrong_in, missing_in}
 use Rattle.mig_codec.specs.Reading.{IsRead, IsPart, StopsAt, part_nodes}
 
 abbrev pub pieces_of : Pieces → RecordParts

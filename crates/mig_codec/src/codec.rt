@@ -1,3 +1,4 @@
+//! A tree is read by a named type of a family.
 ghost use Rattle.std.specs.Prelude.{◌≡◌, Option, IfOk, IfErr, IsTrue, true};
 ghost use Rattle.mig_model.specs.Family.{body, is_named};
 ghost use Rattle.mig_model.specs.Inhabits.{Inhabits, is_in_form};

@@ -1,3 +1,4 @@
+//! Why a tree was not read.
 ghost use Rattle.std.specs.Prelude.{◌≡◌};
 ghost use Rattle.mig_codec.specs.declared.fault.ReadFault.TheVariants as faults;
 

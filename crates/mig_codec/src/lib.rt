@@ -6,11 +6,9 @@ mod fault;
 mod laws;
 mod pieces;
 mod reading;
-mod row;
 mod stop;
-mod writing;
 
 pub use codec::read;
 pub use fault::ReadFault;
 pub use laws::nodes_by_tree;
-pub use writing::write;
+pub use mig_write::write;

@@ -1,9 +1,13 @@
+//! What was read of a record's map so far. A pair is added by a small function for each list, so that `add` has one way out.
+ghost use Rattle.std.specs.Prelude.{◌≡◌, ◌++◌, ◌∷◌, [], Some, map, OnOk};
+ghost use Rattle.mig_value.specs.View.{slot_of};
+
 use mig_tree::{Memory, Text};
 use mig_value::{RecValue, Slot, Slots};
 use std::alloc::Global;
 
 /// What was read of a record's map so far.
-#[derive(Debug, Drop)]
+#[derive(Drop)]
 pub struct Pieces<'a> {
     pub fields: Vec<Slot<'a>>,
     pub tag: Option<(Text<'a>, Text<'a>)>,
@@ -12,12 +16,27 @@ pub struct Pieces<'a> {
 }
 
 /// A pair of a record's map that was read, where its name belongs.
-#[derive(Debug, Drop)]
+#[derive(Drop)]
 pub enum Placed<'a> {
     Field(Slot<'a>),
     Tag(Text<'a>, Text<'a>),
     Cased(Slot<'a>),
     Unknown(Slot<'a>),
+}
+
+/// Adds the slot behind those that are there.
+fn push<'a>(slots: &mut Vec<Slot<'a>>, slot: Slot<'a>) -> Result<(), Memory>
+    ensures { OnOk result (map slot_of slots.new.items ≡ map slot_of slots.old.items ++ slot_of slot.entry ∷ []) }
+{
+    slots.push(slot)?;
+    Ok(())
+}
+
+/// Puts the tag in place of what is there.
+fn set_tag<'a>(tag: &mut Option<(Text<'a>, Text<'a>)>, name: Text<'a>, literal: Text<'a>)
+    ensures { tag.new ≡ Some (name.entry, literal.entry) }
+{
+    drop(tag.replace((name, literal)));
 }
 
 impl<'a> Pieces<'a> {
@@ -42,15 +61,14 @@ impl<'a> Pieces<'a> {
         ensures { OnOk result (pieces_of self.new ≡ added (pieces_of self.old) placed.entry) }
     {
         match placed {
-            Placed::Field(slot) => self.fields.push(slot)?,
+            Placed::Field(slot) => push(&mut self.fields, slot),
             Placed::Tag(name, literal) => {
-                let before = self.tag.replace((name, literal));
-                drop(before);
+                set_tag(&mut self.tag, name, literal);
+                Ok(())
             }
-            Placed::Cased(slot) => self.cased.push(slot)?,
-            Placed::Unknown(slot) => self.rest.push(slot)?,
+            Placed::Cased(slot) => push(&mut self.cased, slot),
+            Placed::Unknown(slot) => push(&mut self.rest, slot),
         }
-        Ok(())
     }
 
     /// The record value of these pieces, whose lists ascend and whose names are distinct.

@@ -1,3 +1,4 @@
+//! Trees are read at templates, the first wrong place stopping it.
 ghost use Rattle.std.specs.Prelude.{◌≡◌, [], Option, Some, true};
 ghost use Rattle.mig_model.specs.Inhabits.{is_in_form, items_in_form, entries_in_form};
 ghost use Rattle.mig_model.specs.Plain as plain;
@@ -9,12 +10,12 @@ ghost use Rattle.mig_template.specs.View.{template_of};
 ghost use Rattle.mig_tree.specs.View.{plain_of, entry_of};
 ghost use Rattle.mig_codec.specs.Parted.{HasTag, IsRow, Places, PlacesUnknown, ReadsRow, TagAt};
 ghost use Rattle.mig_codec.specs.Reading.{IsPart, Reads, ReadsItems, ReadsNode, ReadsUnder, StopsAt};
-ghost use Rattle.mig_codec.specs.Row.{belongs, tagged};
-ghost use Rattle.mig_codec.specs.RowView.{row_view, missing_view, or_first, tag_place};
+ghost use Rattle.mig_row.specs.Row.{belongs, tagged};
+ghost use Rattle.mig_row.specs.RowView.{row_view, missing_view, or_first, tag_place};
 
 use crate::pieces::{Pieces, Placed};
-use crate::row::{Belongs, Row, earlier, row_of};
 use crate::stop::{Stop, below, below_name, stop_at, stop_here};
+use mig_row::{Belongs, Row, earlier, row_of};
 use mig_schema::Family;
 use mig_template::{Record, Rest, Template};
 use mig_tree::{Entries, Entry, Items, Name, Step, Text, Tree};

@@ -1,3 +1,4 @@
+//! What stops a reader, seen from further and further outside.
 ghost use Rattle.std.specs.Prelude.{◌≡◌, ◌∷◌, [], Option, Some, option_map};
 ghost use Rattle.mig_model.specs.Place.{Place, named};
 ghost use Rattle.mig_codec.specs.declared.stop.Stop.TheVariants as stops;
@@ -8,7 +9,7 @@ use mig_tree::{Memory, Name, Step};
 use std::alloc::{AllocError, AllocFailed, Global};
 
 /// Why reading stopped: at a wrong place, whose steps stand here innermost first, or for want of memory.
-#[derive(Debug, Drop)]
+#[derive(Drop)]
 pub enum Stop {
     Wrong(Vec<Step>),
     Memory,

@@ -10,12 +10,13 @@ use Rattle.mig_small.specs.Rule.{target, act, act_if, plain_rule}
 use Rattle.mig_model.specs.Family.{body, IsFormed}
 use Rattle.mig_small.specs.Chain.{IsAccepted, floor_family, fixed}
 use Rattle.mig_small.specs.Small.{Small, LeafField, open_record, family_with, rule_of, chain_of}
-use Rattle.mig_lift.proofs.OpenRecord.{same_itself, nothing_treated}
+use Rattle.mig_lift.proofs.OpenRecord.{nothing_treated}
+use Rattle.mig_model.proofs.SameNames.{same_name_itself}
 
 module _ (s : Small) where
   -- the root's body
   pub body_is : (fs : List LeafField) → body (family_with s fs) s.root ≡ open_record fs
-  body_is fs = ap (λ b. unwrap_or (cond b (Some (open_record fs)) None) any) (same_itself s.root)
+  body_is fs = ap (λ b. unwrap_or (cond b (Some (open_record fs)) None) any) (same_name_itself s.root)
 
   pub floor_is : (v : ℕ) → floor_family (chain_of s) v ≡ cond (nat_le s.second v) (Some (family_with s s.after)) (cond (nat_le s.first v) (Some (family_with s s.before)) None)
   floor_is v = refl
@@ -36,7 +37,7 @@ module _ (s : Small) where
       where
         known : (a b : Template) → cond (same_name s.root s.root) (Some a) None ≡ cond (same_name s.root s.root) (Some b) None → a ≡ b
         known a b e =
-            let x : Some a ≡ Some b = ap (λ c. cond c (Some a) None) (sym (same_itself s.root)) ∙ e ∙ ap (λ c. cond c (Some b) None) (same_itself s.root) in
+            let x : Some a ≡ Some b = ap (λ c. cond c (Some a) None) (sym (same_name_itself s.root)) ∙ e ∙ ap (λ c. cond c (Some b) None) (same_name_itself s.root) in
             cc
 
         by : (o : Option Template) → target (rule_of s) s.root (open_record s.before) ≡ o → IsTrue (is_some o || false)

@@ -12,7 +12,7 @@ use Rattle.mig_model.specs.Family.{has_twice, IsFormed, first_flaw}
 use Rattle.mig_model.specs.Ascends.{Ascends}
 use Rattle.mig_template.specs.Parts.{RecordParts, Cases, IsRecordOf, IsChoiceOf, choice_of, record_of}
 use Rattle.mig_template.proofs.Sorted.{once_if_ascends}
-use Rattle.mig_template.proofs.OneOrder.{one_order}
+use Rattle.mig_model.proofs.OneOrder.{one_order}
 use Rattle.mig_schema.specs.declared.fault.SchemaFault.{SchemaFault}
 use Rattle.mig_schema.specs.declared.fault.SchemaFault.TheVariants as S
 use Rattle.mig_schema.specs.Fault.{IsFault}

@@ -9,12 +9,12 @@ use Rattle.mig_model.specs.declared.kind.Kind.TheVariants as K
 use Rattle.mig_model.specs.Kinds.{kind_of}
 use Rattle.mig_model.specs.Template.{same_kind}
 use Rattle.mig_model.specs.Inhabits.{are_of_kind, have_one_kind, is_in_form, items_in_form, entries_in_form}
-use Rattle.mig_laws.proofs.Tests.{same_kind_itself}
 use Rattle.mig_json.specs.Kinds.{IsJson, AreJson, ArePairsJson}
 use Rattle.mig_nbt.specs.declared.tag.Tag.{Tag}
 use Rattle.mig_nbt.specs.declared.tag.Tag.TheVariants as T
 use Rattle.mig_nbt.specs.Writing.{tag_of_plain, element_of, AreOf, IsSpelled, AreSpelled, ArePairsSpelled}
 use Rattle.mig_lift.specs.Writable.{IsWritable}
+use Rattle.mig_model.proofs.SameNames.{same_kind_itself}
 
 -- ---- items of one tag have one kind
 abbrev kind_of_tag : Tag → Kind

@@ -1,3 +1,4 @@
+//! What keeps a save from being lifted, and a migrator from being made.
 ghost use Rattle.std.specs.Prelude.{◌≡◌};
 ghost use Rattle.mig_lift.specs.declared.fault.LiftFault.TheVariants as fault;
 

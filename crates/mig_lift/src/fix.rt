@@ -1,3 +1,4 @@
+//! The fix of a small chain, done to a map in place.
 ghost use Rattle.std.specs.Prelude.{◌≡◌, OnOk};
 ghost use Rattle.mig_tree.specs.View.{plain_of};
 ghost use Rattle.mig_model.specs.Kinds.{IsMap, removed};
@@ -27,7 +28,8 @@ fn take_out(tree: &mut Tree, name: &Name)
 fn rename<'a>(tree: &mut Tree<'a>, old_name: &Name, new_name: &'a Name) -> Result<(), Memory>
     requires { IsMap (plain_of tree.old) }
     ensures map { OnOk result (IsMap (plain_of tree.new)) }
-    ensures renamed { OnOk result (plain_of tree.new ≡ on_entries (act_on (model.rename old_name.now new_name.now)) (plain_of tree.old)) }
+    ensures renamed { OnOk result (plain_of tree.new
+        ≡ on_entries (act_on (model.rename old_name.now new_name.now)) (plain_of tree.old)) }
 {
     let moved = tree.remove(old_name.bytes());
     take_out(tree, new_name);
@@ -41,7 +43,8 @@ fn rename<'a>(tree: &mut Tree<'a>, old_name: &Name, new_name: &'a Name) -> Resul
 fn add<'a>(tree: &mut Tree<'a>, name: &'a Name, constant: &'a Const) -> Result<(), Memory>
     requires { IsMap (plain_of tree.old) }
     ensures map { OnOk result (IsMap (plain_of tree.new)) }
-    ensures added { OnOk result (plain_of tree.new ≡ on_entries (act_on (model.add name.now (const_of constant.now))) (plain_of tree.old)) }
+    ensures added { OnOk result (plain_of tree.new
+        ≡ on_entries (act_on (model.add name.now (const_of constant.now))) (plain_of tree.old)) }
 {
     take_out(tree, name);
     tree.put(Text::lent(name.bytes()), constant.tree())?;
@@ -52,7 +55,8 @@ fn add<'a>(tree: &mut Tree<'a>, name: &'a Name, constant: &'a Const) -> Result<(
 pub fn fix<'a>(chain: &'a SmallChain, tree: &mut Tree<'a>) -> Result<(), Memory>
     requires { IsMap (plain_of tree.old) }
     ensures map { OnOk result (IsMap (plain_of tree.new)) }
-    ensures fixed { OnOk result (plain_of tree.new ≡ act (rule_of chain.now) chain.now.root (open_record chain.now.before) (plain_of tree.old)) }
+    ensures fixed { OnOk result (plain_of tree.new
+        ≡ act (rule_of chain.now) chain.now.root (open_record chain.now.before) (plain_of tree.old)) }
 {
     rename(tree, chain.old_name(), chain.new_name())?;
     add(tree, chain.added(), chain.constant())?;

@@ -1,3 +1,4 @@
+//! One save, from its bytes to those of the lifted save.
 ghost use Rattle.std.specs.Prelude.{◌≡◌, ◌≤◌, ◌&&◌, IfOk, OnOk, map, nat_lt, nat_le, if◌then◌else◌};
 ghost use Rattle.mig_tree.specs.View.{plain_of};
 ghost use Rattle.mig_model.specs.declared.form.Form.TheVariants.{Nbt, Json};
@@ -31,7 +32,8 @@ fn is_due(chain: &SmallChain, version: u32, target: u32) -> bool
 
 /// The fields of the greatest schema that isn't above the version.
 fn fields_at(chain: &SmallChain, version: u32) -> &[SmallField]
-    ensures { map field_of result.now ≡ (if nat_lt version chain.now.second then chain.now.before else chain.now.after) }
+    ensures { map field_of result.now
+        ≡ (if nat_lt version chain.now.second then chain.now.before else chain.now.after) }
 {
     if version < chain.second() {
         chain.before()
@@ -88,6 +90,7 @@ fn lift_tree<'a, L: Ledger>(
     Ok((tree, version))
 }
 
+/// Lifts the bytes of a save in the NBT form.
 fn lift_nbt<L: Ledger>(
     alloc: Global,
     chain: &SmallChain,
@@ -110,6 +113,7 @@ fn lift_nbt<L: Ledger>(
     Ok((written, version))
 }
 
+/// Lifts the bytes of a save in the JSON form.
 fn lift_json<L: Ledger>(
     alloc: Global,
     chain: &SmallChain,

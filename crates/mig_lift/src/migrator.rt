@@ -1,3 +1,4 @@
+//! A chain and the target of its lifts.
 ghost use Rattle.std.specs.Prelude.{◌≡◌, ◌≤◌, ◌<◌, IfOk, MatchResult};
 ghost use Rattle.mig_small.specs.Small.{chain_of};
 ghost use Rattle.mig_lift.specs.declared.fault.NewFault.TheVariants.{TargetBelow};

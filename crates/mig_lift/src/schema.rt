@@ -1,3 +1,4 @@
+//! The schema of a version, as a family by which a tree is read.
 ghost use Rattle.std.specs.Prelude.{◌≡◌, IfOk, map, true};
 ghost use Rattle.mig_model.specs.Family.{IsFormed};
 ghost use Rattle.mig_model.specs.Inhabits.{is_in_form};

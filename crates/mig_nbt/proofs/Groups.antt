@@ -5,6 +5,7 @@ use Rattle.std.proofs.Math.Dec.{eqb-suc-zero}
 use Rattle.std.proofs.lemmas.Bool.{le-ltb, lt-ltb, le-leb, ltb-true, leb-true}
 use Rattle.mig_nbt.specs.Format.{IsMore, Groups, none, one, two, three}
 use Rattle.mig_nbt.specs.Reading.{is_more, still_to_come, groups_from, are_groups}
+use Rattle.mig_model.proofs.Bools.{split_and}
 
 -- ---- what the first byte of a group says
 after_one : (a : ℕ) → a < 128 → still_to_come 0 a ≡ Some 0
@@ -41,10 +42,6 @@ Behind (suc n) s = (b : ℕ) × (rest : List ℕ) × (s ≡ b ∷ rest) × IsMor
 abbrev First : ℕ → ℕ → Type 0
 First a n = ((n ≡ 0) × (a < 128)) ⊎ (((n ≡ 1) × (192 ≤ a) × (a < 224)) ⊎ ((n ≡ 2) × (224 ≤ a) × (a < 240)))
 
-both : (x y : Bool) → (x && y) ≡ true → (x ≡ true) × (y ≡ true)
-both true y e = (refl, e)
-both false y e = absurd cc
-
 value_of : (m n : ℕ) → Some m ≡ Some n → n ≡ m
 value_of m n e = cc
 
@@ -55,10 +52,10 @@ first_byte a n e = by (nat_lt a 128) refl (nat_le 192 a && nat_lt a 224) refl (n
         → cond x (Some 0) (cond y (Some 1) (cond z (Some 2) None)) ≡ Some n → First a n
     by true h y g z k e = inl (value_of 0 n e, ltb-true a 128 h)
     by false h true g z k e =
-        let b = both (nat_le 192 a) (nat_lt a 224) g in
+        let b = split_and (nat_le 192 a) (nat_lt a 224) g in
         inr (inl (value_of 1 n e, leb-true 192 a b.0, ltb-true a 224 b.1))
     by false h false g true k e =
-        let b = both (nat_le 224 a) (nat_lt a 240) k in
+        let b = split_and (nat_le 224 a) (nat_lt a 240) k in
         inr (inr (value_of 2 n e, leb-true 224 a b.0, ltb-true a 240 b.1))
     by false h false g false k e = absurd cc
 
@@ -66,7 +63,7 @@ next_byte : (n b m : ℕ) → still_to_come (suc n) b ≡ Some m → (m ≡ n) �
 next_byte n b m e = by (is_more b) refl e
   where
     by : (x : Bool) → is_more b ≡ x → cond x (Some n) None ≡ Some m → (m ≡ n) × IsMore b
-    by true h e = let p = both (nat_le 128 b) (nat_lt b 192) h in (value_of n m e, (leb-true 128 b p.0, ltb-true b 192 p.1))
+    by true h e = let p = split_and (nat_le 128 b) (nat_lt b 192) h in (value_of n m e, (leb-true 128 b p.0, ltb-true b 192 p.1))
     by false h e = absurd cc
 
 three_of : (a : ℕ) (rest : List ℕ) → 224 ≤ a → a < 240 → Behind 2 rest → Groups (a ∷ rest)

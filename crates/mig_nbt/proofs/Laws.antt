@@ -14,6 +14,9 @@ use Rattle.mig_nbt.specs.Format.{number_of, Number, IsText, IsArray, Leaf, Paylo
 use Rattle.mig_nbt.proofs.Loops.{going}
 use Rattle.mig_nbt.specs.Reading.{◌>>=◌, Read, seen, number_at, tag_of, tag_at, are_groups, text_at, array_at, leaf_at, payloads_at, list_at, is_end, is_compound, tags_at, map_at, payload_at, save_at}
 use Rattle.mig_nbt.proofs.Groups.{groups_pass, groups_of}
+use Rattle.std.proofs.lemmas.Option.{same_Some}
+use Rattle.mig_model.proofs.Bools.{split_or}
+use Rattle.mig_model.proofs.Options.{pass_some, chosen}
 
 bind_some : {A B : Type 0} (r : Option A) (f : A → Option B) (y : B) → (r >>= f) ≡ Some y → (x : A) × (r ≡ Some x) × (f x ≡ Some y)
 bind_some (Some x) f y e = (x, refl, e)
@@ -23,31 +26,21 @@ guard_some : {A : Type 0} (b : Bool) (r : Option A) (y : A) → cond b None r �
 guard_some true r y e = absurd cc
 guard_some false r y e = (refl, e)
 
-pass_some : {A : Type 0} (b : Bool) (r : Option A) (y : A) → cond b r None ≡ Some y → (b ≡ true) × (r ≡ Some y)
-pass_some true r y e = (refl, e)
-pass_some false r y e = absurd cc
-
-some_is : {A : Type 0} (x y : A) → Some x ≡ Some y → x ≡ y
-some_is x y e = cc
-
 abbrev here : {A : Type 0} → A → List ℕ → Read A
 here x rest = Some (x, rest)
 
 module _ {A : Type 0} (x : A) (r : List ℕ) (y : A) (s : List ℕ) (e : here x r ≡ here y s) where
   value_is : x ≡ y
-  value_is = ap (λ (p : A × List ℕ). p.0) (some_is (x, r) (y, s) e)
+  value_is = ap (λ (p : A × List ℕ). p.0) (same_Some (x, r) (y, s) e)
 
   rest_is : r ≡ s
-  rest_is = ap (λ (p : A × List ℕ). p.1) (some_is (x, r) (y, s) e)
+  rest_is = ap (λ (p : A × List ℕ). p.1) (same_Some (x, r) (y, s) e)
 
 -- ---- tags
-chosen : {A : Type 0} (b : Bool) (x y z : A) → cond b x y ≡ z → ((b ≡ true) × (x ≡ z)) ⊎ ((b ≡ false) × (y ≡ z))
-chosen true x y z e = inl (refl, e)
-chosen false x y z e = inr (refl, e)
 
 tag_step : (n i : ℕ) (t : Tag) (r : Option Tag) (k : Tag) → number_of t ≡ i → (r ≡ Some k → n ≡ number_of k) → cond (n == i) (Some t) r ≡ Some k → n ≡ number_of k
 tag_step n i t r k it later e = elim (chosen (n == i) (Some t) r (Some k) e) [
-  | inl p ↦ let same : n ≡ i = grind (arith, p.0) in same ∙ sym it ∙ ap number_of (some_is t k p.1)
+  | inl p ↦ let same : n ≡ i = grind (arith, p.0) in same ∙ sym it ∙ ap number_of (same_Some t k p.1)
   | inr p ↦ later p.1
 ]
 
@@ -108,9 +101,6 @@ then_part : (bytes b middle c rest : List ℕ) → bytes ≡ b ++ middle → mid
 then_part bytes b middle c rest p q = p ∙ ap (λ (l : List ℕ). b ++ l) q ∙ sym (append_assoc b c rest)
 
 -- ---- texts and arrays
-neither : (a b : Bool) → (a || b) ≡ false → (a ≡ false) × (b ≡ false)
-neither false b e = (refl, e)
-neither true b e = absurd cc
 
 text_sound : (bytes s rest : List ℕ) → text_at bytes ≡ Some (s, rest) → InFront (λ b. IsText b s) bytes rest
 unfolding text_at
@@ -120,7 +110,7 @@ text_sound bytes s rest e =
     let l = b.0.1 in
     let h = number_sound w16 bytes n l b.1 in
     let g = guard_some (nat_le (2 ^ 16) n || nat_lt (length l) n) (cond (are_groups (take n l)) (Some (take n l, drop n l)) None) (s, rest) b.2 in
-    let neither_is = neither (nat_le (2 ^ 16) n) (nat_lt (length l) n) g.0 in
+    let neither_is = split_or (nat_le (2 ^ 16) n) (nat_lt (length l) n) g.0 in
     let u = pass_some (are_groups (take n l)) (Some (take n l, drop n l)) (s, rest) g.1 in
     let long : n ≤ length l = ltb-false (length l) n neither_is.1 in
     let v : take n l ≡ s = value_is (take n l) (drop n l) s rest u.1 in
@@ -391,7 +381,7 @@ save_sound bytes name t e =
     let s = b.0.0 in
     let d = bind_some (payload_at 512 Compound b.0.1) (λ t. cond (length t.1 == 0) (Some (s, t.0)) None) (name, t) b.2 in
     let v = pass_some (length d.0.1 == 0) (Some (s, d.0.0)) (name, t) d.2 in
-    let is : (s, d.0.0) ≡ (name, t) = some_is (s, d.0.0) (name, t) v.1 in
+    let is : (s, d.0.0) ≡ (name, t) = same_Some (s, d.0.0) (name, t) v.1 in
     let first = tag_sound bytes k a.0.1 a.1 in
     let named = text_sound a.0.1 s b.0.1 b.1 in
     let inner = payload_sound 512 Compound b.0.1 d.0.0 d.0.1 d.1 in

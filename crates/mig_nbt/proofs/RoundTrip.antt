@@ -45,7 +45,8 @@ trees_back : (ts : Trees) → trees_of (items ts) ≡ ts
 trees_back no_tree = refl
 trees_back (tree t ts) = ap (tree t) (trees_back ts)
 
-pairs_back : (ps : Pairs) → pairs_of (entries ps) ≡ ps
+-- the pairs of a map, as a list and back
+pub pairs_back : (ps : Pairs) → pairs_of (entries ps) ≡ ps
 pairs_back no_pair = refl
 pairs_back (pair k t ps) = ap (pair k t) (pairs_back ps)
 

@@ -13,6 +13,7 @@ use Rattle.mig_model.specs.Names.{by_bytes, found, without, with_pair}
 use Rattle.mig_nbt.specs.declared.tag.Tag.{Tag}
 use Rattle.mig_nbt.specs.declared.tag.Tag.TheVariants as T
 use Rattle.mig_nbt.specs.Format.{IsText, Leaf, Payloads, IsList, Tags, IsCompound, Payload, NbtSave}
+use Rattle.mig_nbt.proofs.RoundTrip.{pairs_back}
 use Rattle.mig_nbt.specs.Writing.{tag_of_plain, element_of, IsName, AreOf, IsSpelled, AreSpelled, ArePairsSpelled}
 
 -- a spelled tree of a tag
@@ -120,10 +121,6 @@ found_spelled x (u ∷ es) t a e = by (is_eq (by_bytes x u.0)) (found_spelled x 
     by : (b : Bool) → (found x es ≡ Some t → IsSpelled t) → cond b (Some u.1) (found x es) ≡ Some t → IsSpelled t
     by true rest h = subst IsSpelled (same u.1 t h) a.1
     by false rest h = rest h
-
-pairs_back : (ps : Pairs) → pairs_of (entries ps) ≡ ps
-pairs_back no_pair = refl
-pairs_back (pair k t ps) = ap (pair k t) (pairs_back ps)
 
 pub removed_spelled : (x : List ℕ) (t : Plain) → IsSpelled t → IsSpelled (removed x t)
 removed_spelled x (plain.map ps) a = pairs_without x (entries ps) (subst ArePairsSpelled (sym (pairs_back ps)) a)

@@ -1,3 +1,4 @@
+//! Why bytes were not read, or a tree not written.
 ghost use Rattle.std.specs.Prelude.{◌≡◌};
 ghost use Rattle.mig_nbt.specs.declared.error.NbtError.TheVariants.{Memory};
 

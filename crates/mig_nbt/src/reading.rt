@@ -1,3 +1,4 @@
+//! Bytes are read as a name and a tree, from left to right.
 ghost use Rattle.std.specs.Prelude.{IfOk, Err, ℕ, List, map, ◌≡◌, ◌+◌, ◌*◌, ◌^◌, ◌<◌, ◌≤◌, length, IsTrue, ◌↔◌, Some, None};
 ghost use Rattle.std.specs.Int.{w8, w16, w32, w64};
 ghost use Rattle.mig_nbt.specs.Reading.{Gives, are_groups, still_to_come, is_more, number_at, tag_of, tag_at, text_at, array_at, leaf_at, payload_at, payloads_at, list_at, tags_at, map_at, save_at};
@@ -12,16 +13,17 @@ use crate::tag::Tag;
 use mig_tree::{Entry, Items, Text, Tree, gather};
 use std::alloc::Global;
 
+/// A byte, and what is behind it.
 fn u8_at(bytes: &[u8]) -> Result<(u8, &[u8]), NbtError>
     ensures { Gives (λ x. (x.0, x.1.now)) result (number_at w8 bytes.now) }
 {
-    if bytes.len() < 1 {
-        return Err(NbtError::Wrong);
+    match bytes {
+        [] => Err(NbtError::Wrong),
+        [number, rest @ ..] => Ok((*number, rest)),
     }
-    let (front, rest) = bytes.split_at(1);
-    Ok((u8::from_be_bytes([front[0]]), rest))
 }
 
+/// A number of two bytes, and what is behind it.
 fn u16_at(bytes: &[u8]) -> Result<(u16, &[u8]), NbtError>
     ensures { Gives (λ x. (x.0, x.1.now)) result (number_at w16 bytes.now) }
 {
@@ -32,6 +34,7 @@ fn u16_at(bytes: &[u8]) -> Result<(u16, &[u8]), NbtError>
     Ok((u16::from_be_bytes([front[0], front[1]]), rest))
 }
 
+/// A number of four bytes, and what is behind it.
 fn u32_at(bytes: &[u8]) -> Result<(u32, &[u8]), NbtError>
     ensures { Gives (λ x. (x.0, x.1.now)) result (number_at w32 bytes.now) }
 {
@@ -43,6 +46,7 @@ fn u32_at(bytes: &[u8]) -> Result<(u32, &[u8]), NbtError>
     Ok((number, rest))
 }
 
+/// A number of eight bytes, and what is behind it.
 fn u64_at(bytes: &[u8]) -> Result<(u64, &[u8]), NbtError>
     ensures { Gives (λ x. (x.0, x.1.now)) result (number_at w64 bytes.now) }
 {
@@ -56,6 +60,7 @@ fn u64_at(bytes: &[u8]) -> Result<(u64, &[u8]), NbtError>
     Ok((number, rest))
 }
 
+/// The tag of the number, where there is one.
 fn tag_of(number: u8) -> Option<Tag>
     ensures { result ≡ tag_of number }
 {
@@ -77,6 +82,7 @@ fn tag_of(number: u8) -> Option<Tag>
     }
 }
 
+/// A tag by its number, and what is behind it.
 #[tactic(auto, unfolding(crate::specs::Reading::tag_at))]
 fn tag_at(bytes: &[u8]) -> Result<(Tag, &[u8]), NbtError>
     ensures { Gives (λ x. (x.0, x.1.now)) result (tag_at bytes.now) }
@@ -90,6 +96,7 @@ fn tag_at(bytes: &[u8]) -> Result<(Tag, &[u8]), NbtError>
     }
 }
 
+/// A count that isn't negative, that many elements of so many bytes, and what is behind them.
 #[tactic(auto, unfolding(crate::specs::Reading::array_at))]
 fn array_at(size: usize, bytes: &[u8]) -> Result<(&[u8], &[u8]), NbtError>
     requires { size ≤ 8 }
@@ -106,6 +113,7 @@ fn array_at(size: usize, bytes: &[u8]) -> Result<(&[u8], &[u8]), NbtError>
     Ok(rest.split_at(len))
 }
 
+/// Whether the text is of whole groups.
 fn are_groups(text: &[u8]) -> bool
     ensures { result ≡ are_groups text.now }
 {
@@ -141,12 +149,14 @@ fn still_to_come(pending: u8, byte: u8) -> Option<u8>
     }
 }
 
+/// Whether the byte is one behind the first of a group.
 fn is_more(byte: u8) -> bool
     ensures { result ≡ is_more byte }
 {
     byte >= 0x80 && byte < 0xc0
 }
 
+/// A text behind its length, and what is behind it.
 #[tactic(auto, unfolding(crate::specs::Reading::text_at))]
 fn text_at(bytes: &[u8]) -> Result<(&[u8], &[u8]), NbtError>
     ensures { Gives (λ x. (x.0.now, x.1.now)) result (text_at bytes.now) }
@@ -164,6 +174,7 @@ fn text_at(bytes: &[u8]) -> Result<(&[u8], &[u8]), NbtError>
 }
 
 /// A payload with nothing inside.
+/// A payload with nothing inside, and what is behind it.
 #[tactic(auto, unfolding(crate::specs::Reading::leaf_at))]
 fn leaf_at(tag: Tag, bytes: &[u8]) -> Result<(Tree, &[u8]), NbtError>
     ensures { Gives (λ x. (plain_of x.0, x.1.now)) result (leaf_at tag bytes.now) }
@@ -214,6 +225,7 @@ fn leaf_at(tag: Tag, bytes: &[u8]) -> Result<(Tree, &[u8]), NbtError>
 }
 
 /// A payload in which lists and compounds nest at most so many levels deep.
+/// A payload in which lists and compounds nest at most so many levels deep, and what is behind it.
 #[cycle(payload)]
 #[tactic(auto, unfolding(crate::specs::Reading::payload_at))]
 fn payload_at<'a>(
@@ -241,6 +253,7 @@ fn payload_at<'a>(
     }
 }
 
+/// A list, whose elements are of one tag, and what is behind it.
 #[cycle(payload)]
 #[tactic(auto, unfolding(crate::specs::Reading::list_at))]
 fn list_at<'a>(
@@ -259,6 +272,7 @@ fn list_at<'a>(
     Ok((Tree::List(items), rest))
 }
 
+/// So many payloads of the tag, and what is behind them.
 #[cycle(payload)]
 fn payloads_at<'a>(
     alloc: Global,
@@ -280,6 +294,7 @@ fn payloads_at<'a>(
     Ok((items, rest))
 }
 
+/// A compound whose names are distinct, and what is behind it.
 #[cycle(payload)]
 #[tactic(auto, unfolding(crate::specs::Reading::map_at))]
 fn map_at<'a>(alloc: Global, levels: u32, bytes: &'a [u8]) -> Result<(Tree<'a>, &'a [u8]), NbtError>
@@ -293,6 +308,7 @@ fn map_at<'a>(alloc: Global, levels: u32, bytes: &'a [u8]) -> Result<(Tree<'a>, 
 }
 
 /// The named tags in the order of the file. Each takes a byte at least, so the count of the bytes bounds the turns.
+/// Named tags up to the tag End, and what is behind it.
 #[cycle(payload)]
 fn tags_at<'a>(
     alloc: Global,
@@ -321,6 +337,7 @@ fn tags_at<'a>(
 }
 
 /// The name and the tree of a file.
+/// One named compound and nothing behind it.
 #[tactic(auto, unfolding(crate::specs::Reading::save_at))]
 fn save_at(alloc: Global, bytes: &[u8]) -> Result<(Text, Tree), NbtError>
     ensures { Gives (λ x. (x.0, plain_of x.1)) result (save_at bytes.now) }

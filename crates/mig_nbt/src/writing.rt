@@ -1,3 +1,4 @@
+//! A name and a tree are written as their canonical bytes.
 ghost use Rattle.std.specs.Prelude.{◌≡◌, ◌++◌, ◌∷◌, [], ◌<◌, ◌≤◌, ◌^◌, ◌/◌, length, map, OnOk, IfOk};
 ghost use Rattle.std.specs.Int.{w8, w16, w32, w64, to_be_bytes};
 ghost use Rattle.mig_tree.specs.View.{plain_of, entry_of};
@@ -11,6 +12,7 @@ use crate::tag::Tag;
 use mig_tree::{Entry, Memory, Tree};
 use std::alloc::{AllocError, Global};
 
+/// The number of the tag.
 fn number_of(tag: Tag) -> u8
     ensures { result ≡ number_of tag }
 {
@@ -31,6 +33,7 @@ fn number_of(tag: Tag) -> u8
     }
 }
 
+/// The tag of the tree's payload.
 fn tag_of_tree(tree: &Tree) -> Tag
     ensures { result ≡ tag_of_plain (plain_of tree.now) }
 {
@@ -61,6 +64,7 @@ fn element_of(trees: &[Tree]) -> Tag
     }
 }
 
+/// Adds the length and the text.
 fn write_text(out: &mut Vec<u8>, text: &[u8]) -> Result<(), AllocError>
     requires { length text.now < 2 ^ 16 }
     ensures { OnOk result (out.new.items ≡ out.old.items ++ text_bytes text.now) }
@@ -69,6 +73,7 @@ fn write_text(out: &mut Vec<u8>, text: &[u8]) -> Result<(), AllocError>
     out.extend_from_slice(text)
 }
 
+/// Adds the count and the array.
 fn write_array(out: &mut Vec<u8>, count: u32, array: &[u8]) -> Result<(), AllocError>
     ensures { OnOk result (out.new.items ≡ out.old.items ++ (to_be_bytes w32 count ++ array.now)) }
 {
@@ -76,6 +81,7 @@ fn write_array(out: &mut Vec<u8>, count: u32, array: &[u8]) -> Result<(), AllocE
     out.extend_from_slice(array)
 }
 
+/// Adds the payload of the tree.
 #[cycle(payload)]
 fn write_payload(out: &mut Vec<u8>, tree: &Tree) -> Result<(), AllocError>
     requires { IsSpelled (plain_of tree.now) }
@@ -103,6 +109,7 @@ fn write_payload(out: &mut Vec<u8>, tree: &Tree) -> Result<(), AllocError>
     }
 }
 
+/// Adds the payloads of the trees.
 #[cycle(payload)]
 fn write_payloads(out: &mut Vec<u8>, trees: &[Tree]) -> Result<(), AllocError>
     requires { AreSpelled (trees_of (map plain_of trees.now)) }
@@ -115,6 +122,7 @@ fn write_payloads(out: &mut Vec<u8>, trees: &[Tree]) -> Result<(), AllocError>
     Ok(())
 }
 
+/// Adds the named tags of the entries, and the tag End.
 #[cycle(payload)]
 fn write_tags(out: &mut Vec<u8>, entries: &[Entry]) -> Result<(), AllocError>
     requires { ArePairsSpelled (pairs_of (map entry_of entries.now)) }
@@ -138,7 +146,8 @@ pub fn write(alloc: Global, name: &[u8], tree: &Tree) -> Result<Vec<u8>, Memory>
     requires map { IsMap (plain_of tree.now) }
     requires spelled { IsSpelled (plain_of tree.now) }
     ensures text { IfOk result (λ out. out.items ≡ save_text name.now (plain_of tree.now)) }
-    ensures reads_back { IfOk result (λ out. levels (plain_of tree.now) ≤ 512 → length out.items ≤ 16777216 → NbtSave out.items name.now (plain_of tree.now)) }
+    ensures reads_back { IfOk result (λ out. levels (plain_of tree.now) ≤ 512
+        → length out.items ≤ 16777216 → NbtSave out.items name.now (plain_of tree.now)) }
 {
     tree.keeps();
     let mut out = Vec::new(alloc);

@@ -1,176 +1,202 @@
-//! The families that the tests read by.
+//! The families that the tests read by. Want of memory ends the test at once, so that no template is let go on the way.
 use mig_schema::{Family, Form, Kind, Name, Template, TemplateBox, VersionPath};
 use mig_template::{Field, Presence, Record, Rest};
 use std::alloc::Global;
-use std::test::Fail;
+use std::process::Abort;
 
-/// A field of the name; with `?` before the name it may be away.
-fn field(alloc: Global, name: &[u8], template: Template) -> Result<Field, Fail> {
+/// What a test says where memory is wanting.
+pub const MEMORY: &str = "out of memory";
+
+fn name_of(rt: &impl Abort, alloc: Global, bytes: &[u8]) -> Name {
+    Name::new(alloc, bytes).expect(rt, MEMORY)
+}
+
+/// A list with one field of the name; with `?` before the name it may be away.
+fn one_field(rt: &impl Abort, alloc: Global, name: &[u8], template: Template) -> Vec<Field> {
     let (presence, name) = match name {
         [b'?', rest @ ..] => (Presence::May, rest),
         whole => (Presence::Must, whole),
     };
-    Ok(Field {
-        name: Name::new(alloc, name)?,
+    let name = name_of(rt, alloc, name);
+    let field = Field {
+        name,
         presence,
         template,
-    })
+    };
+    vec![in alloc; field].expect(rt, MEMORY)
 }
 
-/// A list with that one field.
-fn one_field(alloc: Global, name: &[u8], template: Template) -> Result<Vec<Field>, Fail> {
-    let mut fields = Vec::new(alloc);
-    fields.push(field(alloc, name, template)?)?;
-    Ok(fields)
+/// Adds a field as `one_field` makes it.
+fn add_field(
+    rt: &impl Abort,
+    alloc: Global,
+    fields: &mut Vec<Field>,
+    name: &[u8],
+    template: Template,
+) {
+    let mut more = one_field(rt, alloc, name, template);
+    fields.append(&mut more).expect(rt, MEMORY);
+}
+
+/// A record with these fields and no choice.
+fn record_of(rt: &impl Abort, alloc: Global, fields: Vec<Field>, rest: Rest) -> Template {
+    let record = Record::new(alloc, fields, None, rest);
+    Template::Rec(record.expect(rt, "no record"))
 }
 
 /// An open record with that one field.
-fn with_field(alloc: Global, name: &[u8], template: Template) -> Result<Template, Fail> {
-    let fields = one_field(alloc, name, template)?;
-    Ok(Template::Rec(Record::new(alloc, fields, None, Rest::Open)?))
+fn with_field(rt: &impl Abort, alloc: Global, name: &[u8], template: Template) -> Template {
+    let fields = one_field(rt, alloc, name, template);
+    record_of(rt, alloc, fields, Rest::Open)
 }
 
-fn list_of(alloc: Global, part: Template) -> Result<Template, Fail> {
-    Ok(Template::List(TemplateBox::new(alloc, part)?))
+/// The template on the heap.
+fn boxed(rt: &impl Abort, alloc: Global, template: Template) -> TemplateBox {
+    TemplateBox::new(alloc, template).expect(rt, MEMORY)
 }
 
-fn sum_of(alloc: Global, left: Template, right: Template) -> Result<Template, Fail> {
-    let left = TemplateBox::new(alloc, left)?;
-    Ok(Template::Sum(left, TemplateBox::new(alloc, right)?))
+/// `list text`.
+fn texts(rt: &impl Abort, alloc: Global) -> Template {
+    Template::List(boxed(rt, alloc, Template::Leaf(Kind::Text)))
 }
 
-fn point_to(alloc: Global, name: &[u8]) -> Result<Template, Fail> {
-    Ok(Template::Point(Name::new(alloc, name)?))
+fn point_to(rt: &impl Abort, alloc: Global, name: &[u8]) -> Template {
+    Template::Point(name_of(rt, alloc, name))
 }
 
 /// Adds a type of that name.
 fn add(
+    rt: &impl Abort,
     alloc: Global,
     types: &mut Vec<(Name, Template)>,
     name: &[u8],
     body: Template,
-) -> Result<(), Fail> {
-    types.push((Name::new(alloc, name)?, body))?;
-    Ok(())
+) {
+    let name = name_of(rt, alloc, name);
+    types.push((name, body)).expect(rt, MEMORY);
 }
 
-/// The version path of these names.
-fn path(alloc: Global, names: &[&str]) -> Result<VersionPath, Fail> {
-    let mut list = Vec::new(alloc);
-    for name in names {
-        list.push(Name::new(alloc, name.as_bytes())?)?;
+/// The family of these types and this root, whose version stands under these names.
+fn family_of(
+    rt: &impl Abort,
+    alloc: Global,
+    types: Vec<(Name, Template)>,
+    root: &[u8],
+    path: &[&str],
+) -> Family {
+    let mut names = Vec::new(alloc);
+    for name in path {
+        let name = name_of(rt, alloc, name.as_bytes());
+        names.push(name).expect(rt, MEMORY);
     }
-    match VersionPath::new(list) {
-        Some(path) => Ok(path),
-        None => Err("no version path")?,
-    }
+    let version = VersionPath::new(names).expect(rt, "no version path");
+    let root = name_of(rt, alloc, root);
+    Family::new(alloc, Form::Json, version, types, root).expect(rt, "no family")
 }
 
 /// The case `"chest" { "items": list text }`.
-fn chest(alloc: Global) -> Result<(Name, Vec<Field>), Fail> {
-    let name = Name::new(alloc, b"chest")?;
-    let texts = list_of(alloc, Template::Leaf(Kind::Text))?;
-    Ok((name, one_field(alloc, b"items", texts)?))
+fn chest(rt: &impl Abort, alloc: Global) -> (Name, Vec<Field>) {
+    let items = one_field(rt, alloc, b"items", texts(rt, alloc));
+    (name_of(rt, alloc, b"chest"), items)
 }
 
 /// The case `"sign" { "line": text }`.
-fn sign(alloc: Global) -> Result<(Name, Vec<Field>), Fail> {
-    let name = Name::new(alloc, b"sign")?;
-    let line = one_field(alloc, b"line", Template::Leaf(Kind::Text))?;
-    Ok((name, line))
+fn sign(rt: &impl Abort, alloc: Global) -> (Name, Vec<Field>) {
+    let line = one_field(rt, alloc, b"line", Template::Leaf(Kind::Text));
+    (name_of(rt, alloc, b"sign"), line)
 }
 
 /// `{ "pos": whole, choice "id" { .. } }` with these cases.
 fn block(
+    rt: &impl Abort,
     alloc: Global,
     cases: Vec<(Name, Vec<Field>)>,
     kept: bool,
     rest: Rest,
-) -> Result<Template, Fail> {
-    let tag = Name::new(alloc, b"id")?;
-    let fields = one_field(alloc, b"pos", Template::Leaf(Kind::Whole))?;
-    let record = Record::new(alloc, fields, Some((tag, cases, kept)), rest)?;
-    Ok(Template::Rec(record))
+) -> Template {
+    let choice = Some((name_of(rt, alloc, b"id"), cases, kept));
+    let fields = one_field(rt, alloc, b"pos", Template::Leaf(Kind::Whole));
+    let record = Record::new(alloc, fields, choice, rest);
+    Template::Rec(record.expect(rt, "no record"))
 }
 
 /// `world = { "blocks": list block, .. }`, the root, with this block.
-fn world_of(alloc: Global, block: Template) -> Result<Family, Fail> {
+fn world_of(rt: &impl Abort, alloc: Global, block: Template) -> Family {
     let mut types = Vec::new(alloc);
-    add(alloc, &mut types, b"block", block)?;
-    let blocks = list_of(alloc, point_to(alloc, b"block")?)?;
-    let world = with_field(alloc, b"blocks", blocks)?;
-    add(alloc, &mut types, b"world", world)?;
-    let version = path(alloc, &["v"])?;
-    let root = Name::new(alloc, b"world")?;
-    Ok(Family::new(alloc, Form::Json, version, types, root)?)
+    add(rt, alloc, &mut types, b"block", block);
+    let blocks = Template::List(boxed(rt, alloc, point_to(rt, alloc, b"block")));
+    let world = with_field(rt, alloc, b"blocks", blocks);
+    add(rt, alloc, &mut types, b"world", world);
+    family_of(rt, alloc, types, b"world", &["v"])
 }
 
 /// A world of open blocks that are signs or chests.
-pub fn world(alloc: Global) -> Result<Family, Fail> {
-    let mut cases = Vec::new(alloc);
-    cases.push(sign(alloc)?)?;
-    cases.push(chest(alloc)?)?;
-    world_of(alloc, block(alloc, cases, false, Rest::Open)?)
+pub fn world(rt: &impl Abort, alloc: Global) -> Family {
+    let cases = vec![in alloc; sign(rt, alloc), chest(rt, alloc)].expect(rt, MEMORY);
+    let block = block(rt, alloc, cases, false, Rest::Open);
+    world_of(rt, alloc, block)
 }
 
 /// A world of closed blocks that are chests, and where `kept` says so also others.
-pub fn closed_world(alloc: Global, kept: bool) -> Result<Family, Fail> {
-    let mut cases = Vec::new(alloc);
-    cases.push(chest(alloc)?)?;
-    world_of(alloc, block(alloc, cases, kept, Rest::Closed)?)
+pub fn closed_world(rt: &impl Abort, alloc: Global, kept: bool) -> Family {
+    let cases = vec![in alloc; chest(rt, alloc)].expect(rt, MEMORY);
+    let block = block(rt, alloc, cases, kept, Rest::Closed);
+    world_of(rt, alloc, block)
 }
 
 /// `level = { "Data": { "LevelName": text }, .. }`, the root, whose version stands under `Data` and `DataVersion`.
-pub fn level(alloc: Global) -> Result<Family, Fail> {
-    let fields = one_field(alloc, b"LevelName", Template::Leaf(Kind::Text))?;
-    let data = Template::Rec(Record::new(alloc, fields, None, Rest::Closed)?);
+pub fn level(rt: &impl Abort, alloc: Global) -> Family {
+    let fields = one_field(rt, alloc, b"LevelName", Template::Leaf(Kind::Text));
+    let data = record_of(rt, alloc, fields, Rest::Closed);
     let mut types = Vec::new(alloc);
-    add(
-        alloc,
-        &mut types,
-        b"level",
-        with_field(alloc, b"Data", data)?,
-    )?;
-    let version = path(alloc, &["Data", "DataVersion"])?;
-    let root = Name::new(alloc, b"level")?;
-    Ok(Family::new(alloc, Form::Json, version, types, root)?)
+    let level = with_field(rt, alloc, b"Data", data);
+    add(rt, alloc, &mut types, b"level", level);
+    family_of(rt, alloc, types, b"level", &["Data", "DataVersion"])
 }
 
 /// Adds the type of an open record with one field, which is a point to the named type.
 fn add_around(
+    rt: &impl Abort,
     alloc: Global,
     types: &mut Vec<(Name, Template)>,
     name: &[u8],
     inner: &[u8],
-) -> Result<(), Fail> {
-    let part = point_to(alloc, inner)?;
-    add(alloc, types, name, with_field(alloc, inner, part)?)
+) {
+    let around = with_field(rt, alloc, inner, point_to(rt, alloc, inner));
+    add(rt, alloc, types, name, around);
 }
 
-/// Points behind points: `item = { "id": text, .. }`, `slot = { "item": item, .. }`, `bag = { "slot": slot, .. }` and `player = { "bag": bag, .. }`, with the root `player`.
-pub fn player(alloc: Global) -> Result<Family, Fail> {
+/// Points behind points: `item = { "id": text, .. }`, `slot = { "item": item, .. }`, `bag = { "slot": slot, .. }` and
+/// `player = { "bag": bag, .. }`, with the root `player`.
+pub fn player(rt: &impl Abort, alloc: Global) -> Family {
     let mut types = Vec::new(alloc);
-    let item = with_field(alloc, b"id", Template::Leaf(Kind::Text))?;
-    add(alloc, &mut types, b"item", item)?;
-    add_around(alloc, &mut types, b"slot", b"item")?;
-    add_around(alloc, &mut types, b"bag", b"slot")?;
-    add_around(alloc, &mut types, b"player", b"bag")?;
-    let version = path(alloc, &["DataVersion"])?;
-    let root = Name::new(alloc, b"player")?;
-    Ok(Family::new(alloc, Form::Json, version, types, root)?)
+    let item = with_field(rt, alloc, b"id", Template::Leaf(Kind::Text));
+    add(rt, alloc, &mut types, b"item", item);
+    add_around(rt, alloc, &mut types, b"slot", b"item");
+    add_around(rt, alloc, &mut types, b"bag", b"slot");
+    add_around(rt, alloc, &mut types, b"player", b"bag");
+    family_of(rt, alloc, types, b"player", &["DataVersion"])
+}
+
+/// `text or list text`.
+fn line(rt: &impl Abort, alloc: Global) -> Template {
+    let text = boxed(rt, alloc, Template::Leaf(Kind::Text));
+    Template::Sum(text, boxed(rt, alloc, texts(rt, alloc)))
 }
 
 /// A closed record that reaches itself: `note = { "line": text or list text, "mark"?: any, "more"?: note }`, the root.
-pub fn note(alloc: Global) -> Result<Family, Fail> {
-    let texts = list_of(alloc, Template::Leaf(Kind::Text))?;
-    let line = sum_of(alloc, Template::Leaf(Kind::Text), texts)?;
-    let mut fields = one_field(alloc, b"line", line)?;
-    fields.push(field(alloc, b"?mark", Template::Any)?)?;
-    fields.push(field(alloc, b"?more", point_to(alloc, b"note")?)?)?;
-    let note = Record::new(alloc, fields, None, Rest::Closed)?;
+pub fn note(rt: &impl Abort, alloc: Global) -> Family {
+    let mut fields = one_field(rt, alloc, b"line", line(rt, alloc));
+    add_field(rt, alloc, &mut fields, b"?mark", Template::Any);
+    add_field(
+        rt,
+        alloc,
+        &mut fields,
+        b"?more",
+        point_to(rt, alloc, b"note"),
+    );
     let mut types = Vec::new(alloc);
-    add(alloc, &mut types, b"note", Template::Rec(note))?;
-    let version = path(alloc, &["v"])?;
-    let root = Name::new(alloc, b"note")?;
-    Ok(Family::new(alloc, Form::Json, version, types, root)?)
+    let note = record_of(rt, alloc, fields, Rest::Closed);
+    add(rt, alloc, &mut types, b"note", note);
+    family_of(rt, alloc, types, b"note", &["v"])
 }

@@ -1,13 +1,17 @@
-use Rattle.std.proofs.Common.{◌≡◌, ◌∙◌, ap, rules}
-use Rattle.mig_model.specs.declared.form.Form.TheVariants as F
-use Rattle.mig_model.specs.Inhabits.{is_in_form}
-use Rattle.mig_tree.specs.View.{plain_of}
-use Rattle.mig_lift.proofs.InForm.{in_form}
+use Rattle.std.proofs.Common.{◌≡◌, ◌∙◌, ap, subst}
+use Rattle.std.specs.Prelude.{IfOk}
+use Rattle.mig_model.specs.Family.{body}
+use Rattle.mig_template.specs.Parts.{record_of}
+use Rattle.mig_value.specs.Fit.{FitAsRead}
+use Rattle.mig_value.specs.View.{typed_of}
+use Rattle.func_tests.proofs.Shapes.{read_shape}
 use Rattle.func_tests.proofs.tests.outcome.Goals as goal
 
--- the family is of JSON, and the tree that of a JSON text
-pub outcome_of-requires-clause-form : goal.outcome_of-requires-clause-form
-outcome_of-requires-clause-form c =
-    let tree = plain_of c.in_ok-tree.tree in
-    let json : c.args.family.now.form ≡ F.Json = search rules in
-    ap (λ form. is_in_form form tree) json ∙ in_form F.Json tree (c.in_ok-tree.ensures.json)
+-- what was read has the shape of the root's record
+pub applied-requires : goal.applied-requires
+applied-requires g c =
+    let f = c.args.family.now in
+    let n = c.root.result.now in
+    let at : body f n ≡ record_of c.root_record-record.result.now = ap (body f) c.root.ensures ∙ c.root_record-record.ensures in
+    let fits = subst (λ r. IfOk r (λ v. FitAsRead f.form (body f) n (typed_of v))) c.expect-value.ensures c.read.ensures.fits in
+    read_shape f n (record_of c.root_record-record.result.now) (typed_of c.expect-value.result) at fits

@@ -1,4 +1,4 @@
 use Rattle.func_tests.proofs.tests.written.Given as goal
 
 abbrev pub ghosts-write_alone : goal.ghosts-write_alone
-ghosts-write_alone a = record { name = a.blank.name; parts = a.blank.parts }
+ghosts-write_alone g a = record { name = a.blank.name; parts = a.blank.parts }

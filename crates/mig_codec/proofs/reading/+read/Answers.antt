@@ -1,6 +1,5 @@
 use Rattle.std.proofs.Common.{rules, ◌≡◌, ◌∙◌, ◌≤◌, ◌*◌, ◌++◌, ◌∷◌, [], List, map, length, None, true, false, refl, sym, ap, subst, arith}
 use Rattle.std.specs.Prelude.{option_map}
-use Rattle.mig_model.specs.Names.{IsNamed}
 use Rattle.mig_model.specs.Place.{under, wrong_item}
 use Rattle.mig_model.specs.Plain as plain
 use Rattle.mig_model.specs.Plain.{Plain, size, items_size, entries_size, trees_of, pairs_of}
@@ -11,7 +10,7 @@ use Rattle.mig_model.specs.Inhabits.{is_in_form, items_in_form, entries_in_form}
 use Rattle.mig_template.specs.Parts.{record_of}
 use Rattle.mig_template.specs.View.{template_of}
 use Rattle.std.proofs.lemmas.List.{length-map}
-use Rattle.mig_template.proofs.Alike.{map_append}
+use Rattle.std.proofs.lemmas.List.{map-append}
 use Rattle.mig_tree.specs.View.{plain_of, entry_of}
 use Rattle.mig_tree.specs.declared.tree.Tree.{Tree}
 use Rattle.mig_tree.specs.declared.entries.Entry.{Entry}
@@ -23,12 +22,13 @@ use Rattle.mig_value.specs.View.{typed_of}
 use Rattle.mig_tree.specs.Place.{step_of}
 use Rattle.mig_codec.specs.Reading.{wrong_part, StopsAt, IsRead, IsNodeRead}
 use Rattle.mig_codec.specs.Parted.{HasTag, IsRowRead, pieces_of, added, below_name, wrong_pair, wrong_row}
-use Rattle.mig_codec.specs.Row.{common, cased, belongs, missing_in}
-use Rattle.mig_codec.specs.RowView.{row_view, missing_view, earlier, or_first}
-use Rattle.mig_codec.proofs.Belonging.{common_found, cased_found}
+use Rattle.mig_row.specs.Row.{common, cased, belongs, missing_in}
+use Rattle.mig_row.specs.RowView.{row_view, missing_view, earlier, or_first}
+use Rattle.mig_row.proofs.Belonging.{common_found, cased_found}
 use Rattle.mig_codec.proofs.Forms.{list_form, item_form, entry_form}
 use Rattle.mig_codec.proofs.Gathered.{GatheredItems, Gathered}
 use Rattle.mig_codec.proofs.ItemLoop.{one_more_item, item_wrong}
+use Rattle.mig_codec.proofs.PairLoop.{pair_in_hand}
 use Rattle.mig_model.proofs.Loops.{in_hand, all_behind}
 use Rattle.mig_codec.proofs.Measures.{less_work, less_tree, item_within, entry_within, rank_body, rank_side, width}
 use Rattle.mig_codec.proofs.PartsOf.{list_part, body_part, left_part, right_part}
@@ -77,8 +77,8 @@ read_items-loop-item-preserved t c =
     let V = template_of c.args.part.now in
     let ys = c.loop-item.yielded in
     let vs = c.loop-item.values.items in
-    let trees : map plain_of (ys ++ c.in-Some.item ∷ []) ≡ map plain_of ys ++ plain_of c.in-Some.item ∷ [] = map_append plain_of ys (c.in-Some.item ∷ []) in
-    let values : map typed_of c.push.new.self.items ≡ map typed_of vs ++ typed_of c.in-Ok.value ∷ [] = ap (map typed_of) c.in_ok-push-in-Ok.ensures.items ∙ map_append typed_of vs (c.in-Ok.value ∷ []) in
+    let trees : map plain_of (ys ++ c.in-Some.item ∷ []) ≡ map plain_of ys ++ plain_of c.in-Some.item ∷ [] = map-append plain_of ys (c.in-Some.item ∷ []) in
+    let values : map typed_of c.push.new.self.items ≡ map typed_of vs ++ typed_of c.in-Ok.value ∷ [] = ap (map typed_of) c.in_ok-push-in-Ok.ensures.items ∙ map-append typed_of vs (c.in-Ok.value ∷ []) in
     subst (λ ts. GatheredItems f V ts (map typed_of c.push.new.self.items)) (sym trees)
     (subst (GatheredItems f V (map plain_of ys ++ plain_of c.in-Some.item ∷ [])) (sym values) (one_more_item f V (map plain_of ys) (map typed_of vs) (plain_of c.in-Some.item) (typed_of c.in-Ok.value) c.loop-item.invariant c.in-Ok.ensures))
 
@@ -91,7 +91,7 @@ read_items-returns-in-Err t c =
     let x = c.in-Some.item in
     let as_long : c.into_iter-item-iterator.result.rest.len ≡ length all = search rules in
     let here = in_hand c.into_iter-item-iterator.result c.loop-item.item-iterator c.next.new.self all ys x c.into_iter-item-iterator.ensures.into_iter_gives.0 as_long c.loop-item.yielded_by c.next.result c.in-Some.is c.next.ensures.steps in
-    let whole : c.args.items ≡ map plain_of ys ++ plain_of x ∷ map plain_of here.0 = sym c.into_vec-item-items.ensures.items ∙ ap (λ (l : List Tree). map plain_of l) here.1 ∙ map_append plain_of ys (x ∷ here.0) in
+    let whole : c.args.items ≡ map plain_of ys ++ plain_of x ∷ map plain_of here.0 = sym c.into_vec-item-items.ensures.items ∙ ap (λ (l : List Tree). map plain_of l) here.1 ∙ map-append plain_of ys (x ∷ here.0) in
     let count : length (map plain_of ys) ≡ c.len-in-Err.result = omega (arith, c.loop-item.invariant.count, length-map c.loop-item.values.items typed_of, c.len-in-Err.ensures) in
     subst (λ ts. StopsAt c.below.result (wrong_item (wrong_part f V) 0 ts)) (sym whole)
     (stop_passes c.in-Err.stop c.below.result (λ o. option_map (λ p. step_of (S.Index c.len-in-Err.result) ∷ p) o) refl c.below.ensures (wrong_part f V (plain_of x)) (wrong_item (wrong_part f V) 0 (map plain_of ys ++ plain_of x ∷ map plain_of here.0)) c.in-Err.ensures
@@ -204,14 +204,13 @@ read_row-read_entry-requires t c =
     let ys = c.loop-entry.yielded in
     let x = c.in-Some.entry in
     let as_long : c.into_iter-entry-iterator.result.rest.len ≡ length all = search rules in
-    let here = in_hand c.into_iter-entry-iterator.result c.loop-entry.entry-iterator c.next.new.self all ys x c.into_iter-entry-iterator.ensures.into_iter_gives.0 as_long c.loop-entry.yielded_by c.next.result c.in-Some.is c.next.ensures.steps in
+    let here = pair_in_hand c.args.entries all ys x c.into_vec-entry-items.ensures.pairs c.into_vec-entry-items.ensures.keep.0
+    (in_hand c.into_iter-entry-iterator.result c.loop-entry.entry-iterator c.next.new.self all ys x c.into_iter-entry-iterator.ensures.into_iter_gives.0 as_long c.loop-entry.yielded_by c.next.result c.in-Some.is c.next.ensures.steps) in
     let pairs = c.into_vec-entry-items.ensures.pairs in
-    let whole : c.args.entries ≡ map entry_of ys ++ entry_of x ∷ map entry_of here.0 = sym pairs ∙ ap (λ (l : List Entry). map entry_of l) here.1 ∙ map_append entry_of ys (x ∷ here.0) in
-    let sorted : IsNamed (map entry_of ys ++ entry_of x ∷ map entry_of here.0) = subst IsNamed whole c.into_vec-entry-items.ensures.keep.0 in
-    let within = entry_within all ys x here in
+    let within = entry_within all ys x (here.behind, here.is) in
     let form : entries_in_form f.form (pairs_of (map entry_of all)) ≡ true = ap (λ es. entries_in_form f.form (pairs_of es)) pairs ∙ c.requires.form in (
       omega (arith, less_tree f (plain_of x.tree) (entries_size (map entry_of all)) within, ap (λ es. entries_size es * width f) pairs),
-      (c.requires.row, (tag_at row (map entry_of ys) (map entry_of here.0) x.name (plain_of x.tree) (subst (HasTag row.tag) whole c.requires.tag) sorted, entry_form f.form all ys x here form)),
+      (c.requires.row, (tag_at row (map entry_of ys) (map entry_of here.behind) x.name (plain_of x.tree) (subst (HasTag row.tag) here.whole c.requires.tag) here.sorted, entry_form f.form all ys x (here.behind, here.is) form)),
     )
 
 pub read_row-loop-entry-preserved : goal.read_row-loop-entry-preserved
@@ -222,15 +221,13 @@ read_row-loop-entry-preserved t c =
     let ys = c.loop-entry.yielded in
     let x = c.in-Some.entry in
     let as_long : c.into_iter-entry-iterator.result.rest.len ≡ length all = search rules in
-    let here = in_hand c.into_iter-entry-iterator.result c.loop-entry.entry-iterator c.next.new.self all ys x c.into_iter-entry-iterator.ensures.into_iter_gives.0 as_long c.loop-entry.yielded_by c.next.result c.in-Some.is c.next.ensures.steps in
-    let pairs = c.into_vec-entry-items.ensures.pairs in
-    let whole : c.args.entries ≡ map entry_of ys ++ entry_of x ∷ map entry_of here.0 = sym pairs ∙ ap (λ (l : List Entry). map entry_of l) here.1 ∙ map_append entry_of ys (x ∷ here.0) in
-    let sorted : IsNamed (map entry_of ys ++ entry_of x ∷ map entry_of here.0) = subst IsNamed whole c.into_vec-entry-items.ensures.keep.0 in
-    let more : map entry_of (ys ++ x ∷ []) ≡ map entry_of ys ++ entry_of x ∷ [] = map_append entry_of ys (x ∷ []) in
+    let here = pair_in_hand c.args.entries all ys x c.into_vec-entry-items.ensures.pairs c.into_vec-entry-items.ensures.keep.0
+    (in_hand c.into_iter-entry-iterator.result c.loop-entry.entry-iterator c.next.new.self all ys x c.into_iter-entry-iterator.ensures.into_iter_gives.0 as_long c.loop-entry.yielded_by c.next.result c.in-Some.is c.next.ensures.steps) in
+    let more : map entry_of (ys ++ x ∷ []) ≡ map entry_of ys ++ entry_of x ∷ [] = map-append entry_of ys (x ∷ []) in
     let made : pieces_of c.add.new.self ≡ added (pieces_of c.loop-entry.pieces) c.in-Ok.placed = c.in_ok-add-in-Ok.ensures in
     subst (λ es. Gathered f row es (pieces_of c.add.new.self)) (sym more)
     (subst (Gathered f row (map entry_of ys ++ entry_of x ∷ [])) (sym made)
-    (one_more_pair f row (map entry_of ys) (pieces_of c.loop-entry.pieces) c.loop-entry.invariant x.name (plain_of x.tree) (map entry_of here.0) sorted c.in-Ok.placed c.in-Ok.ensures))
+    (one_more_pair f row (map entry_of ys) (pieces_of c.loop-entry.pieces) c.loop-entry.invariant x.name (plain_of x.tree) (map entry_of here.behind) here.sorted c.in-Ok.placed c.in-Ok.ensures))
 
 pub read_row-returns-in-Err : goal.read_row-returns-in-Err
 read_row-returns-in-Err t c =
@@ -240,16 +237,14 @@ read_row-returns-in-Err t c =
     let ys = c.loop-entry.yielded in
     let x = c.in-Some.entry in
     let as_long : c.into_iter-entry-iterator.result.rest.len ≡ length all = search rules in
-    let here = in_hand c.into_iter-entry-iterator.result c.loop-entry.entry-iterator c.next.new.self all ys x c.into_iter-entry-iterator.ensures.into_iter_gives.0 as_long c.loop-entry.yielded_by c.next.result c.in-Some.is c.next.ensures.steps in
-    let pairs = c.into_vec-entry-items.ensures.pairs in
-    let whole : c.args.entries ≡ map entry_of ys ++ entry_of x ∷ map entry_of here.0 = sym pairs ∙ ap (λ (l : List Entry). map entry_of l) here.1 ∙ map_append entry_of ys (x ∷ here.0) in
-    let sorted : IsNamed (map entry_of ys ++ entry_of x ∷ map entry_of here.0) = subst IsNamed whole c.into_vec-entry-items.ensures.keep.0 in
+    let here = pair_in_hand c.args.entries all ys x c.into_vec-entry-items.ensures.pairs c.into_vec-entry-items.ensures.keep.0
+    (in_hand c.into_iter-entry-iterator.result c.loop-entry.entry-iterator c.next.new.self all ys x c.into_iter-entry-iterator.ensures.into_iter_gives.0 as_long c.loop-entry.yielded_by c.next.result c.in-Some.is c.next.ensures.steps) in
     let before = missing_view c.earlier-before.result in
-    let is : before ≡ earlier x.name (missing_in row (map entry_of ys ++ entry_of x ∷ map entry_of here.0)) =
-    c.earlier-before.ensures ∙ (λ i. earlier (c.bytes.ensures i) (c.missing-missing.ensures i)) ∙ ap (λ es. earlier x.name (missing_in row es)) whole in
-    subst (λ es. StopsAt c.first_of.result (wrong_row f row es)) (sym whole)
-    (stop_passes c.in-Err.stop c.first_of.result (or_first before) refl c.first_of.ensures (under (below_name x.name (wrong_pair f row x.name (plain_of x.tree)))) (wrong_row f row (map entry_of ys ++ entry_of x ∷ map entry_of here.0)) c.in-Err.ensures
-    (pair_stops f row (map entry_of ys) (map entry_of here.0) x.name (plain_of x.tree) before c.loop-entry.invariant.right is))
+    let is : before ≡ earlier x.name (missing_in row (map entry_of ys ++ entry_of x ∷ map entry_of here.behind)) =
+    c.earlier-before.ensures ∙ (λ i. earlier (c.bytes.ensures i) (c.missing-missing.ensures i)) ∙ ap (λ es. earlier x.name (missing_in row es)) here.whole in
+    subst (λ es. StopsAt c.first_of.result (wrong_row f row es)) (sym here.whole)
+    (stop_passes c.in-Err.stop c.first_of.result (or_first before) refl c.first_of.ensures (under (below_name x.name (wrong_pair f row x.name (plain_of x.tree)))) (wrong_row f row (map entry_of ys ++ entry_of x ∷ map entry_of here.behind)) c.in-Err.ensures
+    (pair_stops f row (map entry_of ys) (map entry_of here.behind) x.name (plain_of x.tree) before c.loop-entry.invariant.right is))
 
 pub read_row-into_record-requires : goal.read_row-into_record-requires
 read_row-into_record-requires t c =

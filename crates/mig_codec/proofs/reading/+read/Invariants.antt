@@ -5,7 +5,7 @@ use Rattle.mig_template.specs.View.{template_of}
 use Rattle.mig_tree.specs.View.{plain_of, entry_of}
 use Rattle.mig_value.specs.View.{typed_of}
 use Rattle.mig_codec.specs.Parted.{pieces_of}
-use Rattle.mig_codec.specs.RowView.{row_view}
+use Rattle.mig_row.specs.RowView.{row_view}
 use Rattle.mig_codec.proofs.Gathered.{GatheredItems, Gathered}
 use Rattle.mig_codec.proofs.Measures.{work, tree_work, items_work, entries_work}
 use Rattle.mig_codec.proofs.reading.+read.Given as goal

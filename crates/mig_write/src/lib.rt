@@ -1,0 +1,6 @@
+//! A typed value is written as its tree.
+#![tactic(auto)]
+
+mod writing;
+
+pub use writing::write;

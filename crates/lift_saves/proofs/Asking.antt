@@ -5,7 +5,7 @@ use Rattle.std.proofs.lemmas.Slice.Eq.{bytes_eq-Decides}
 use Rattle.mig_files.specs.Held.{Held}
 use Rattle.lift_saves.specs.declared.stop.Stop.{Stop}
 use Rattle.lift_saves.specs.declared.stop.Ending.{Ending}
-use Rattle.lift_saves.specs.Command.{number_of, Asked, asked_at, asked, Asks, AsksNothing, LiftRuns, RunsAsked, Runs}
+use Rattle.lift_saves.specs.Command.{number_of, Asked, asked_at, asked, Asks, AsksNothing, RunsAsked, Runs}
 use Rattle.lift_saves.proofs.Numbers.{number_found, number_complete}
 
 read_asks : (words : List (List ℕ)) (a : Asked) → asked words ≡ Some a → Asks words a

@@ -3,6 +3,7 @@ pub mod Due
 pub mod Steps
 pub mod Loop
 pub mod Listing
+pub mod Causes
 pub mod Commands
 pub mod Numbers
 pub mod Asking

@@ -12,6 +12,7 @@ use Rattle.std.specs.Cmp.Lexicographic.{slice_cmp}
 use Rattle.mig_model.specs.declared.form.Form.{Form}
 use Rattle.mig_files.specs.Held.{Held, Lists, is_among}
 use Rattle.lift_saves.specs.Folder.{IsSaves, AreThere, is_save}
+use Rattle.mig_model.proofs.Bools.{right_or, false_and, first_true}
 
 pub all_filtered : {X : Type 0} (P : X → Type 0) (p : X → Bool) (xs : List X) → AllByRecursion P xs → AllByRecursion P (filter p xs)
 all_filtered P p [] all = tt
@@ -35,16 +36,12 @@ eq_flips x y = elim (bytes_eq x y) as (λ b. bytes_eq x y ≡ b → b ≡ bytes_
   ] refl)
 ] refl
 
-pub and_false : (a b : Bool) → b ≡ false → (a && b) ≡ false
-and_false true b h = h
-and_false false b h = refl
-
 pub taken : (e a pn r : Bool) → r ≡ (a && pn) → (e ≡ true → pn ≡ true) → (e || r) ≡ ((e || a) && pn)
 taken true a pn r ih k = sym (k refl)
 taken false a pn r ih k = ih
 
 pub left_out : (e a pn r : Bool) → r ≡ (a && pn) → (e ≡ true → pn ≡ false) → r ≡ ((e || a) && pn)
-left_out true a pn r ih k = ih ∙ and_false a pn (k refl) ∙ sym (k refl)
+left_out true a pn r ih k = ih ∙ false_and a pn (k refl) ∙ sym (k refl)
 left_out false a pn r ih k = ih
 
 -- a name is among the saves where it is among the names and is a save's
@@ -76,21 +73,9 @@ pub told_of : (form : Form) (o : Option Held) (folder : List ℕ) (names saves :
 told_of form None folder names saves l moved up = tt
 told_of form (Some m) folder names saves l moved up = saves_of form m folder names saves l moved up
 
-pub or_true : (a b : Bool) → b ≡ true → (a || b) ≡ true
-or_true true b h = refl
-or_true false b h = h
-
-pub left_true : (a b : Bool) → (a && b) ≡ true → a ≡ true
-left_true true b h = refl
-left_true false b h = h
-
 pub there_of : (held : Held) (folder : List ℕ) (xs : List (List ℕ)) → ((n : List ℕ) → is_among xs n ≡ true → IsSome (held (folder, n))) → AllByRecursion (λ n. IsSome (held (folder, n))) xs
 there_of held folder [] h = tt
-there_of held folder (x ∷ xs) h = (h x (ap (λ (b : Bool). b || is_among xs x) ((bytes_eq-Decides x x).1 refl)), there_of held folder xs (λ n a. h n (or_true (bytes_eq n x) (is_among xs n) a)))
+there_of held folder (x ∷ xs) h = (h x (ap (λ (b : Bool). b || is_among xs x) ((bytes_eq-Decides x x).1 refl)), there_of held folder xs (λ n a. h n (right_or (bytes_eq n x) (is_among xs n) a)))
 
 pub are_there : (form : Form) (held : Held) (folder : List ℕ) (names : List (List ℕ)) → IsSaves form held folder names → AreThere held folder names
-are_there form held folder names s = record { once = s.once; there = there_of held folder names (λ n a. left_true (is_some (held (folder, n))) (is_save form n) (sym (s.all n) ∙ a)) }
-
-pub map_itself : {X : Type 0} (xs : List X) → map (λ (y : X). y) xs ≡ xs
-map_itself [] = refl
-map_itself (x ∷ xs) = ap (λ l. x ∷ l) (map_itself xs)
+are_there form held folder names s = record { once = s.once; there = there_of held folder names (λ n a. first_true (is_some (held (folder, n))) (is_save form n) (sym (s.all n) ∙ a)) }

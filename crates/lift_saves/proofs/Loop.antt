@@ -1,5 +1,5 @@
 -- A run over several saves, one after another.
-use Rattle.std.proofs.Common.{◌≡◌, inl, inr, refl, sym, ◌∙◌, ap, subst, ℕ, ◌+◌, ◌<◌, Bool, true, false, ◌&&◌, ◌||◌, cond, List, [], ◌∷◌, ◌++◌, Option, Some, None, Result, Ok, Err, length, take, drop, get_or, map, arith, take-append-drop}
+use Rattle.std.proofs.Common.{◌≡◌, inl, inr, refl, sym, ◌∙◌, ap, subst, ℕ, ◌+◌, ◌<◌, Bool, false, ◌||◌, cond, List, [], ◌∷◌, ◌++◌, Option, Some, None, Result, Ok, Err, length, take, drop, get_or, map, arith, take-append-drop}
 use Rattle.std.specs.Prelude.{IsSome, bytes_eq}
 use Rattle.std.specs.List.{IsDistinct, AllByRecursion}
 use Rattle.std.proofs.lemmas.List.{append-nil, append_assoc, take_more, get_or-map, length-map}
@@ -10,18 +10,16 @@ use Rattle.lift_saves.specs.declared.stop.Stop.{Stop}
 use Rattle.lift_saves.specs.declared.stop.Stop.TheVariants as stop
 use Rattle.mig_lift.specs.Lift.{Save, Cause}
 use Rattle.lift_saves.specs.Folder.{Job, lifted, stored, after_from, after, line, lines, is_refused, any_refused, Grows, GrowsInto, OneSave, AllSaves, Splits, AreThere}
+use Rattle.mig_model.proofs.Bools.{false_and}
+use Rattle.std.proofs.Math.Bool.{or-false}
 
 pub after_append : (job : Job) (now : Held) (xs ys : List (List ℕ)) → after_from job now (xs ++ ys) ≡ after_from job (after_from job now xs) ys
 after_append job now [] ys = refl
 after_append job now (x ∷ xs) ys = after_append job (stored now (job.to, x) (lifted job x)) xs ys
 
-pub and_false : (a b : Bool) → b ≡ false → (a && b) ≡ false
-and_false true b h = h
-and_false false b h = refl
-
 -- a save's key is all that changes
 pub stored_apart : (now : Held) (to from x y : List ℕ) (v : Result Save Cause) → bytes_eq x y ≡ false → stored now (to, x) v (from, y) ≡ now (from, y)
-stored_apart now to from x y (Ok save) apart = ap (λ (b : Bool). cond b (Some save.bytes) (now (from, y))) (and_false (bytes_eq to from) (bytes_eq x y) apart)
+stored_apart now to from x y (Ok save) apart = ap (λ (b : Bool). cond b (Some save.bytes) (now (from, y))) (false_and (bytes_eq to from) (bytes_eq x y) apart)
 stored_apart now to from x y (Err cause) apart = refl
 
 -- a name that isn't among these
@@ -60,10 +58,6 @@ grows_still o m xs n is first = subst (λ (p : Option (List ℕ)). Grows o p xs)
 abbrev pub Done : Job → List (List ℕ) → Option Held → Option (List ℕ) → Option (List ℕ) → Bool → Type 0
 Done job done now old report refused = (now ≡ Some (after job done)) × Grows old report (lines job done) × (refused ≡ any_refused job done)
 
-pub or_false : (b : Bool) → (b || false) ≡ b
-or_false true = refl
-or_false false = refl
-
 pub one_more : (job : Job) (done : List (List ℕ)) (name : List ℕ) (now new : Option Held) (old report new_report : Option (List ℕ)) (refused one : Bool)
     → Done job done now old report refused → OneSave job name (after job done) new report new_report (Ok one)
     → Done job (done ++ name ∷ []) new old new_report (refused || one)
@@ -72,7 +66,7 @@ one_more job done name now new old report new_report refused one d s =
     let more : lines job (done ++ name ∷ []) ≡ lines job done ++ line job name = flat_map-append (line job) done (name ∷ []) ∙ ap (λ (l : List ℕ). lines job done ++ l) (append-nil (line job name)) in (
       s.0 ∙ ap (λ (h : Held). Some h) (sym (after_append job job.held done (name ∷ []))),
       subst (λ (l : List ℕ). Grows old new_report l) (sym more) grown,
-      (λ i. d.2 i || s.2 i) ∙ ap (λ (b : Bool). any_refused job done || b) (sym (or_false (is_refused (lifted job name)))) ∙ sym (list_any-append (λ n. is_refused (lifted job n)) done (name ∷ [])),
+      (λ i. d.2 i || s.2 i) ∙ ap (λ (b : Bool). any_refused job done || b) (sym (or-false (is_refused (lifted job name)))) ∙ sym (list_any-append (λ n. is_refused (lifted job n)) done (name ∷ [])),
     )
 
 pub one_stops : (job : Job) (names done : List (List ℕ)) (name : List ℕ) (now new : Option Held) (old report new_report : Option (List ℕ)) (refused : Bool) (e : Stop)

@@ -1,5 +1,5 @@
 -- The number that is read from a word is the one whose decimal text the word is.
-use Rattle.std.proofs.Common.{◌≡◌, ℕ, zero, suc, ◌+◌, ◌-◌, ◌*◌, ◌<◌, ◌≤◌, ◌^◌, List, [], ◌∷◌, length, get_or, Bool, true, false, cond, Option, Some, None, refl, sym, ap, subst, ◌∙◌, arith}
+use Rattle.std.proofs.Common.{◌≡◌, ℕ, zero, suc, ◌+◌, ◌-◌, ◌*◌, ◌<◌, ◌≤◌, List, [], ◌∷◌, length, get_or, Bool, true, false, cond, Some, None, refl, sym, ap, subst, ◌∙◌, arith}
 use Rattle.std.specs.Prelude.{nat_le, ◌&&◌, ◌==◌, decimal}
 use Rattle.std.specs.Fmt.{digits}
 use Rattle.std.specs.Int.{IsInRange}
@@ -9,6 +9,7 @@ use Rattle.std.proofs.lemmas.Bool.{le-leb, leb-true, eqb-true, ne_eqb}
 use Rattle.std.proofs.lemmas.Str.Parse.{IsDigitsTest, FoldsDigits, IsNumeralModel, numerals_by_fold}
 use Rattle.std.proofs.lemmas.Fmt.{decimal-digits_value, digits_decimal, digits_value-decimal, first_decimal, decimal_nonempty}
 use Rattle.lift_saves.specs.Command.{IsNumber, number_from, number_of}
+use Rattle.mig_model.proofs.Bools.{split_and}
 
 -- the number that digits write behind those of n
 abbrev after : ℕ → List ℕ → ℕ
@@ -27,10 +28,6 @@ folds = record { empty = λ n. refl; more = λ n c cs k. refl }
 numerals : IsNumeralModel Digits (after 0)
 numerals = numerals_by_fold Digits digits_test after folds
 
-both : (x y : Bool) → (x && y) ≡ true → (x ≡ true) × (y ≡ true)
-both true y e = (refl, e)
-both false y e = absurd cc
-
 grows : (n : ℕ) (bytes : List ℕ) → n ≤ after n bytes
 grows n [] = omega arith
 grows n (b ∷ bytes) = omega (arith, grows (n * 10 + (b - 48)) bytes)
@@ -48,8 +45,8 @@ read_from n (b ∷ bytes) m small e = by ((nat_le 48 b && nat_le b 57) && nat_le
     by : (x : Bool) → ((nat_le 48 b && nat_le b 57) && nat_le (10 * n + (b - 48)) 2147483647) ≡ x → cond x (number_from (10 * n + (b - 48)) bytes) None ≡ Some m
         → (10 * n + (b - 48) ≤ 2147483647 → number_from (10 * n + (b - 48)) bytes ≡ Some m → Reads (10 * n + (b - 48)) bytes m) → Reads n (b ∷ bytes) m
     by true h f more =
-        let p = both (nat_le 48 b && nat_le b 57) (nat_le (10 * n + (b - 48)) 2147483647) h in
-        let q = both (nat_le 48 b) (nat_le b 57) p.0 in
+        let p = split_and (nat_le 48 b && nat_le b 57) (nat_le (10 * n + (b - 48)) 2147483647) h in
+        let q = split_and (nat_le 48 b) (nat_le b 57) p.0 in
         let r = more (leb-true (10 * n + (b - 48)) 2147483647 p.1) f in
         (((leb-true 48 b q.0, leb-true b 57 q.1), r.0), ap (λ k. after k bytes) (sym (swapped n b)) ∙ r.1, r.2)
     by false h f more = absurd cc

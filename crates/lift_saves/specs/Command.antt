@@ -113,12 +113,6 @@ MayRefuse target before now line =
     ⊎ (line ≡ not_yet_line)
     ⊎ ((first : ℕ) × (target < first) × (line ≡ below_line first))
 
--- the report has grown by a line of status 2 that has its cause
-pub record HasLine (target : ℕ) (before now : Counts) (old_report new_report : Option (List ℕ)) : Type 0 where
-  pub line : List ℕ
-  pub due : MayRefuse target before now line
-  pub grows : Grows old_report new_report line
-
 -- the exit status
 abbrev pub status_of : Result Ending Stop → ℕ
 status_of (Ok ending.AllLifted) = 0

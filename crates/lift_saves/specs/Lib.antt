@@ -1,4 +1,5 @@
 pub mod Lines
 pub mod Folder
 pub mod Command
+pub mod Causes
 pub mod View

@@ -1,5 +1,5 @@
 -- The lines of the report. Each ends in one line feed.
-use Rattle.std.specs.Prelude.{ℕ, List, [], ◌∷◌, ◌++◌, Result, Ok, Err, codes, decimal, flat_map}
+use Rattle.std.specs.Prelude.{ℕ, List, [], ◌∷◌, ◌++◌, Option, Some, None, Result, Ok, Err, codes, decimal, flat_map}
 use Rattle.mig_tree.specs.Place.{place_text}
 use Rattle.mig_tree.specs.Spelling.{spelled_byte}
 use Rattle.mig_lift.specs.declared.fault.VersionKind.{VersionKind}
@@ -30,6 +30,21 @@ said target (Err cause) = refusal cause
 -- the line of a save
 abbrev pub save_line : ℕ → List ℕ → Result Save Cause → List ℕ
 save_line target name outcome = spelled name ++ said target outcome ++ 10 ∷ []
+
+-- a listed save: its name, and what became of it; nothing where its read answered that nothing is there
+abbrev pub Listed : Type 0
+Listed = List ℕ × Option (Result Save Cause)
+
+-- what a listed save's line says behind its name
+abbrev pub tells : ℕ → Option (Result Save Cause) → List ℕ
+tells target None = codes ": refused absent"
+tells target (Some outcome) = said target outcome
+
+abbrev pub listed_line : ℕ → Listed → List ℕ
+listed_line target s = spelled s.0 ++ tells target s.1 ++ 10 ∷ []
+
+abbrev pub listed_lines : ℕ → List Listed → List ℕ
+listed_lines target saves = flat_map (listed_line target) saves
 
 abbrev pub usage_line : List ℕ
 usage_line = codes "usage" ++ 10 ∷ []

@@ -1,5 +1,5 @@
 -- What the answers of the parts stand for.
-use Rattle.std.specs.Prelude.{◌≡◌, ◌⊎◌, ℕ, List, [], codes, Option, Some, None, Result, Ok, Err}
+use Rattle.std.specs.Prelude.{◌≡◌, ◌⊎◌, ℕ, List, [], Option, Some, None, Result, Ok, Err}
 use Rattle.mig_files.specs.Held.{Key, Held, Counts}
 use Rattle.mig_small.specs.Chain.{Chain}
 use Rattle.mig_small.specs.Small.{chain_of}
@@ -13,7 +13,7 @@ use Rattle.lift_saves.specs.declared.save.Verdict.TheVariants as verdict
 use Rattle.lift_saves.specs.declared.words.Request.{Request}
 use Rattle.lift_saves.specs.declared.stop.Stop.{Stop}
 use Rattle.lift_saves.specs.declared.stop.Stop.TheVariants as stop
-use Rattle.lift_saves.specs.Lines.{said, absent_line, not_yet_line}
+use Rattle.lift_saves.specs.Lines.{absent_line, not_yet_line}
 use Rattle.lift_saves.specs.Folder.{Job, job_of, outcome, stored, Free, Grows, GrowsInto}
 use Rattle.lift_saves.specs.Command.{Asked, IsNoChain, IsTheChain, first_of, below, MayRefuse}
 
@@ -48,10 +48,6 @@ Keeps now key (Some outcome) new (Err stop.Files) = Free now key outcome new
 Keeps now key (Some outcome) new (Err stop.Report) = ⊥
 Keeps now key (Some outcome) new (Err stop.Memory) = new ≡ Some now
 
-abbrev pub tells : ℕ → Option (Result Save Cause) → List ℕ
-tells target None = codes ": refused absent"
-tells target (Some outcome) = said target outcome
-
 -- what putting a line does to the report
 abbrev pub Told : List ℕ → Option (List ℕ) → Option (List ℕ) → Result (Unit {0}) Stop → Type 0
 Told line old new (Ok done) = Grows old new line
@@ -67,7 +63,7 @@ IsDue (Some text) target (due.Line l) =
     (IsNoChain text × (l.items ≡ not_yet_line)) ⊎ ((c : Chain) × IsTheChain text c × (below (first_of c) target ≡ Some l.items))
 IsDue (Some text) target (due.Lift m) = IsTheChain text (chain_of m.chain) × (below (first_of (chain_of m.chain)) target ≡ None) × (m.target ≡ target)
 
--- a line that is due has its cause
+-- a line that is due has its cause, and a lifting has the target
 abbrev pub MayBeDue : ℕ → Counts → Counts → Due → Type 0
 MayBeDue target before now (due.Line l) = MayRefuse target before now l.items
-MayBeDue target before now (due.Lift m) = Unit {0}
+MayBeDue target before now (due.Lift m) = m.target ≡ target

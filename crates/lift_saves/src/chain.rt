@@ -1,13 +1,13 @@
-// The text of the chain, and what is due by it.
-ghost use Rattle.std.specs.Prelude.{◌≡◌, ◌≤◌, ◌++◌, [], ◌∷◌, Some, IfSome, IfOk, IfErr, IsErrOf};
+//! The text of the chain, and what is due by it.
+ghost use Rattle.std.specs.Prelude.{◌≡◌, ◌≤◌, [], ◌∷◌, Some, IfSome, IfOk, IfErr, IsErrOf};
 ghost use Rattle.mig_files.specs.Held.{Rose, NoneFell, Counts};
-ghost use Rattle.lift_saves.specs.Lines.{below_line};
 ghost use Rattle.lift_saves.specs.View.{IsDue, MayBeDue};
 
+use crate::lines::{below_line, line_of};
 use crate::stop::Stop;
 use mig_files::{FileFault, Files};
 use mig_lift::{Migrator, NewFault, SmallFault, read_small};
-use std::alloc::{AllocError, Global};
+use std::alloc::Global;
 
 const MOST_CHAIN: usize = 1_048_576;
 
@@ -16,24 +16,6 @@ const MOST_CHAIN: usize = 1_048_576;
 pub enum Due {
     Line(Vec<u8>),
     Lift(Migrator),
-}
-
-fn line_of(alloc: Global, text: &[u8]) -> Result<Vec<u8>, AllocError>
-    ensures { IfOk result (λ line. line.items ≡ text.now ++ 10 ∷ []) }
-{
-    let mut line = text.to_vec(alloc)?;
-    line.push(b'\n')?;
-    Ok(line)
-}
-
-fn below(alloc: Global, first: u32) -> Result<Vec<u8>, AllocError>
-    ensures { IfOk result (λ line. line.items ≡ below_line first) }
-{
-    let mut line = b"target below ".to_vec(alloc)?;
-    let digits = first.to_string(alloc)?;
-    line.extend_from_slice(digits.as_bytes())?;
-    line.push(b'\n')?;
-    Ok(line)
 }
 
 // What is due by the text of the chain.
@@ -50,7 +32,7 @@ fn due_of(alloc: Global, text: &[u8], target: u32) -> Result<Due, Stop>
     };
     match Migrator::new(small, target) {
         Ok(migrator) => Ok(Due::Lift(migrator)),
-        Err(NewFault::TargetBelow(first)) => Ok(Due::Line(below(alloc, first)?)),
+        Err(NewFault::TargetBelow(first)) => Ok(Due::Line(below_line(alloc, first)?)),
     }
 }
 

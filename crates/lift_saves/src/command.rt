@@ -1,9 +1,9 @@
-// The command `lift`: the chain first, then the folder.
+//! The command `lift`: the chain first, then the folder.
 ghost use Rattle.std.specs.Prelude.{◌≡◌, ◌≤◌, [], ◌∷◌, Some, IfOk, IsErrOf, Ok};
 ghost use Rattle.mig_files.specs.Held.{Held, Rose, NoneFell};
-ghost use Rattle.lift_saves.specs.Command.{LiftRuns, HasLine, ended};
+ghost use Rattle.lift_saves.specs.Command.{LiftRuns, ended};
+ghost use Rattle.lift_saves.specs.Causes.{PutsCommand};
 ghost use Rattle.lift_saves.specs.View.{asked_by};
-ghost use Rattle.lift_saves.specs.declared.stop.Ending.TheVariants as ending;
 
 use crate::chain::{Due, read_chain};
 use crate::folder::lift_folder;
@@ -15,6 +15,7 @@ use mig_tree::Steps;
 use std::alloc::Global;
 use std::sync::ledger::Ledger;
 
+// How a folder ends.
 fn ending_of(refused: bool) -> Ending
     ensures { Ok result ≡ ended (Ok refused) }
 {
@@ -36,7 +37,8 @@ pub fn lift_command<F: Files, S: Sink, L: Ledger>(
     requires { request.target ≤ 2147483647 }
     ensures told { (held : Held) → F.held files.old ≡ Some held →
         LiftRuns (asked_by request.entry) held (held (46 ∷ [], request.entry.chain.now)) (F.held files.new) (S.written report.old) (S.written report.new) result }
-    ensures untold { result ≡ Ok ending.NotRun → HasLine request.entry.target (F.counts files.old) (F.counts files.new) (S.written report.old) (S.written report.new) }
+    ensures lines { PutsCommand request.entry.target (F.counts files.old) (F.counts files.new)
+        (S.written report.old) (S.written report.new) result }
     ensures counts { NoneFell (F.counts files.old) (F.counts files.new) }
     ensures later { S.faults report.old ≤ S.faults report.new }
     ensures files { IsErrOf result Stop.Files → Rose (F.counts files.old).faults (F.counts files.new).faults }

@@ -1,7 +1,8 @@
-// The saves of a folder, one after another.
+//! The saves of a folder, one after another.
 ghost use Rattle.std.specs.Prelude.{◌≡◌, ◌≤◌, Some, IfSome, IfOk, IsErrOf, map, string_bytes, Bool};
 ghost use Rattle.mig_files.specs.Held.{Held, Rose, NoneFell};
 ghost use Rattle.lift_saves.specs.Folder.{AllSaves, AreThere, IsSaves, WholeFolder, is_save, ends_in};
+ghost use Rattle.lift_saves.specs.Causes.{PutsSaves};
 ghost use Rattle.lift_saves.specs.View.{job_at};
 
 use crate::save::lift_save;
@@ -14,6 +15,7 @@ use mig_tree::Steps;
 use std::alloc::Global;
 use std::sync::ledger::Ledger;
 
+// Whether the name ends so.
 fn ends_in(name: &[u8], ending: &[u8]) -> bool
     ensures { result ≡ ends_in name.now ending.now }
 {
@@ -37,7 +39,8 @@ fn list_saves<F: Files>(
     from: &str,
     files: &mut F,
 ) -> Result<Vec<String>, Stop>
-    ensures told { IfSome (F.held files.old) (λ m. IfOk result (λ names. IsSaves form m from.now (map string_bytes names.items))) }
+    ensures told { IfSome (F.held files.old) (λ m. IfOk result (λ names.
+        IsSaves form m from.now (map string_bytes names.items))) }
     ensures same { F.held files.new ≡ F.held files.old }
     ensures counts { NoneFell (F.counts files.old) (F.counts files.new) }
     ensures files { IsErrOf result Stop.Files → Rose (F.counts files.old).faults (F.counts files.new).faults }
@@ -68,8 +71,11 @@ fn lift_all<F: Files, S: Sink, L: Ledger>(
     report: &mut S,
     steps: &mut Steps<L>,
 ) -> Result<bool, Stop>
-    ensures told { (held : Held) → F.held files.old ≡ Some held → AreThere held folders.entry.from.now (map string_bytes names.now) →
+    ensures told { (held : Held) → F.held files.old ≡ Some held →
+        AreThere held folders.entry.from.now (map string_bytes names.now) →
         AllSaves (job_at migrator.now folders.entry.from.now folders.entry.to.now held) (map string_bytes names.now) (F.held files.new) (S.written report.old) (S.written report.new) result }
+    ensures lines { PutsSaves migrator.now.target (F.counts files.old) (F.counts files.new) (S.written report.old)
+        (S.written report.new) result }
     ensures counts { NoneFell (F.counts files.old) (F.counts files.new) }
     ensures later { S.faults report.old ≤ S.faults report.new }
     ensures files { IsErrOf result Stop.Files → Rose (F.counts files.old).faults (F.counts files.new).faults }
@@ -103,6 +109,8 @@ pub fn lift_folder<F: Files, S: Sink, L: Ledger>(
 ) -> Result<bool, Stop>
     ensures told { (held : Held) → F.held files.old ≡ Some held →
         WholeFolder (job_at migrator.now folders.entry.from.now folders.entry.to.now held) (F.held files.new) (S.written report.old) (S.written report.new) result }
+    ensures lines { PutsSaves migrator.now.target (F.counts files.old) (F.counts files.new) (S.written report.old)
+        (S.written report.new) result }
     ensures counts { NoneFell (F.counts files.old) (F.counts files.new) }
     ensures later { S.faults report.old ≤ S.faults report.new }
     ensures files { IsErrOf result Stop.Files → Rose (F.counts files.old).faults (F.counts files.new).faults }

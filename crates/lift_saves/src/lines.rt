@@ -1,9 +1,10 @@
-// The lines of the report.
+//! The lines of the report.
 ghost use Rattle.std.specs.Prelude.{◌≡◌, ◌≤◌, ◌++◌, [], ◌∷◌, OnOk, IfOk, IsErrOf, decimal, codes};
 ghost use Rattle.mig_files.specs.Held.{Rose};
-ghost use Rattle.lift_saves.specs.Lines.{spelled, kind_line};
+ghost use Rattle.lift_saves.specs.Lines as texts;
+ghost use Rattle.lift_saves.specs.Lines.{kind_line, tells, listed_line};
 ghost use Rattle.lift_saves.specs.Command.{Says};
-ghost use Rattle.lift_saves.specs.View.{found, tells, Told};
+ghost use Rattle.lift_saves.specs.View.{found, Told};
 ghost use Rattle.mig_tree.specs.Place.{place_text};
 
 use crate::save::Verdict;
@@ -13,6 +14,27 @@ use mig_lift::VersionKind;
 use mig_tree::{Memory, Place, spell};
 use std::alloc::{AllocError, Global};
 
+/// A line of these words.
+pub fn line_of(alloc: Global, text: &[u8]) -> Result<Vec<u8>, AllocError>
+    ensures { IfOk result (λ line. line.items ≡ text.now ++ 10 ∷ []) }
+{
+    let mut line = text.to_vec(alloc)?;
+    line.push(b'\n')?;
+    Ok(line)
+}
+
+/// The line that says that the target is below the first schema.
+pub fn below_line(alloc: Global, first: u32) -> Result<Vec<u8>, AllocError>
+    ensures { IfOk result (λ line. line.items ≡ texts.below_line first) }
+{
+    let mut line = b"target below ".to_vec(alloc)?;
+    let digits = first.to_string(alloc)?;
+    line.extend_from_slice(digits.as_bytes())?;
+    line.push(b'\n')?;
+    Ok(line)
+}
+
+// Puts a number to the line.
 fn push_number(alloc: Global, line: &mut Vec<u8>, number: u32) -> Result<(), AllocError>
     ensures { OnOk result (line.new.items ≡ line.old.items ++ decimal number) }
 {
@@ -21,6 +43,7 @@ fn push_number(alloc: Global, line: &mut Vec<u8>, number: u32) -> Result<(), All
     Ok(())
 }
 
+// Puts what is wrong with a version to the line.
 fn push_kind(alloc: Global, line: &mut Vec<u8>, kind: VersionKind) -> Result<(), AllocError>
     ensures { OnOk result (line.new.items ≡ line.old.items ++ kind_line kind) }
 {
@@ -38,6 +61,7 @@ fn push_kind(alloc: Global, line: &mut Vec<u8>, kind: VersionKind) -> Result<(),
     }
 }
 
+// Puts a place to the line.
 fn push_place(alloc: Global, line: &mut Vec<u8>, place: &Place) -> Result<(), Memory>
     ensures { OnOk result (line.new.items ≡ line.old.items ++ place_text place.now) }
 {
@@ -46,6 +70,7 @@ fn push_place(alloc: Global, line: &mut Vec<u8>, place: &Place) -> Result<(), Me
     Ok(())
 }
 
+// Puts the version before and the target to the line.
 fn push_versions(
     alloc: Global,
     line: &mut Vec<u8>,
@@ -121,7 +146,8 @@ pub fn put_save_line<S: Sink>(
     verdict: &Verdict,
     report: &mut S,
 ) -> Result<(), Stop>
-    ensures told { Told (spelled name.now ++ tells target (found verdict.now) ++ 10 ∷ []) (S.written report.old) (S.written report.new) result }
+    ensures told { Told (listed_line target (name.now, found verdict.now)) (S.written report.old)
+        (S.written report.new) result }
     ensures later { S.faults report.old ≤ S.faults report.new }
     ensures report { IsErrOf result Stop.Report → Rose (S.faults report.old) (S.faults report.new) }
     ensures files { IsErrOf result Stop.Files → ⊥ }

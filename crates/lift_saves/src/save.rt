@@ -1,9 +1,10 @@
-// One save: read, lifted, written, and its line put.
+//! One save: read, lifted, written, and its line put.
 ghost use Rattle.std.specs.Prelude.{◌≡◌, ◌≤◌, Some, None, IfSome, IfOk, IsErrOf, IsSome};
 ghost use Rattle.mig_files.specs.Held.{Held, Rose, NoneFell};
 ghost use Rattle.mig_small.specs.Small.{chain_of};
 ghost use Rattle.lift_saves.specs.View.{found, Judges, Keeps, job_at};
-ghost use Rattle.lift_saves.specs.Folder.{OneSave, outcome, is_refused};
+ghost use Rattle.lift_saves.specs.Folder.{OneSave, outcome};
+ghost use Rattle.lift_saves.specs.Causes.{PutsSaves, is_refusal};
 
 use crate::lines::put_save_line;
 use crate::stop::Stop;
@@ -35,7 +36,8 @@ fn judge<F: Files, L: Ledger>(
     files: &mut F,
     steps: &mut Steps<L>,
 ) -> Result<Verdict, Stop>
-    ensures told { IfSome (F.held files.old) (λ m. Judges (m (from.now, name.now)) (outcome (chain_of migrator.now.chain) migrator.now.target) result) }
+    ensures told { IfSome (F.held files.old) (λ m.
+        Judges (m (from.now, name.now)) (outcome (chain_of migrator.now.chain) migrator.now.target) result) }
     ensures same { F.held files.new ≡ F.held files.old }
     ensures counts { NoneFell (F.counts files.old) (F.counts files.new) }
     ensures files { IsErrOf result Stop.Files → Rose (F.counts files.old).faults (F.counts files.new).faults }
@@ -67,7 +69,8 @@ fn keep<F: Files>(
     verdict: &Verdict,
     files: &mut F,
 ) -> Result<(), Stop>
-    ensures told { IfSome (F.held files.old) (λ m. Keeps m (to.now, name.now) (found verdict.now) (F.held files.new) result) }
+    ensures told { IfSome (F.held files.old) (λ m.
+        Keeps m (to.now, name.now) (found verdict.now) (F.held files.new) result) }
     ensures counts { NoneFell (F.counts files.old) (F.counts files.new) }
     ensures files { IsErrOf result Stop.Files → Rose (F.counts files.old).faults (F.counts files.new).faults }
     ensures report { IsErrOf result Stop.Report → ⊥ }
@@ -82,8 +85,9 @@ fn keep<F: Files>(
     }
 }
 
+// Whether the save isn't lifted.
 fn is_refusal(verdict: &Verdict) -> bool
-    ensures { IfSome (found verdict.now) (λ v. result ≡ is_refused v) }
+    ensures { result ≡ is_refusal (found verdict.now) }
 {
     !matches!(verdict, Verdict::Lifted(_, _))
 }
@@ -101,6 +105,8 @@ pub fn lift_save<F: Files, S: Sink, L: Ledger>(
     ensures told { (held now : Held) → IsSome (held (folders.entry.from.now, name.now)) →
         F.held files.old ≡ Some now → now (folders.entry.from.now, name.now) ≡ held (folders.entry.from.now, name.now) →
         OneSave (job_at migrator.now folders.entry.from.now folders.entry.to.now held) name.now now (F.held files.new) (S.written report.old) (S.written report.new) result }
+    ensures lines { PutsSaves migrator.now.target (F.counts files.old) (F.counts files.new) (S.written report.old)
+        (S.written report.new) result }
     ensures counts { NoneFell (F.counts files.old) (F.counts files.new) }
     ensures later { S.faults report.old ≤ S.faults report.new }
     ensures files { IsErrOf result Stop.Files → Rose (F.counts files.old).faults (F.counts files.new).faults }

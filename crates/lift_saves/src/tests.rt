@@ -1,3 +1,4 @@
+//! Folders, saves and words through the whole program.
 ghost use Rattle.std.specs.Prelude.{◌≡◌, ◌<◌};
 
 use crate::run;

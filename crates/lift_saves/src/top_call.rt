@@ -1,9 +1,9 @@
-// The top call.
-ghost use Rattle.std.specs.Prelude.{◌≡◌, ◌≤◌, None, Some, IfSome, map, string_bytes, IsErrOf, Ok};
+//! The top call.
+ghost use Rattle.std.specs.Prelude.{◌≡◌, ◌≤◌, None, Some, IfSome, map, string_bytes, IsErrOf};
 ghost use Rattle.mig_files.specs.Held.{Held, Rose, NoneFell};
 ghost use Rattle.lift_saves.specs.Lines.{usage_line};
-ghost use Rattle.lift_saves.specs.Command.{Asked, Asks, AsksNothing, Runs, RunsAsked, Outcome, Says, HasLine, asked};
-ghost use Rattle.lift_saves.specs.declared.stop.Ending.TheVariants as ending;
+ghost use Rattle.lift_saves.specs.Command.{Asked, Asks, AsksNothing, Runs, RunsAsked, Outcome, Says, asked};
+ghost use Rattle.lift_saves.specs.Causes.{PutsCommand};
 
 use crate::command::lift_command;
 use crate::lines::refuse;
@@ -26,8 +26,8 @@ fn answer<F: Files, S: Sink, L: Ledger>(
         RunsAsked (asked (map string_bytes words.now)) held (F.held files.new) (S.written report.old) (S.written report.new) result }
     ensures usage { asked (map string_bytes words.now) ≡ None →
         Says usage_line (S.written report.old) (S.written report.new) result × (F.held files.new ≡ F.held files.old) × (F.counts files.new ≡ F.counts files.old) }
-    ensures untold { result ≡ Ok ending.NotRun →
-        IfSome (asked (map string_bytes words.now)) (λ a. HasLine a.target (F.counts files.old) (F.counts files.new) (S.written report.old) (S.written report.new)) }
+    ensures lines { IfSome (asked (map string_bytes words.now)) (λ a.
+        PutsCommand a.target (F.counts files.old) (F.counts files.new) (S.written report.old) (S.written report.new) result) }
     ensures counts { NoneFell (F.counts files.old) (F.counts files.new) }
     ensures later { S.faults report.old ≤ S.faults report.new }
     ensures files { IsErrOf result Stop.Files → Rose (F.counts files.old).faults (F.counts files.new).faults }
@@ -52,8 +52,8 @@ fn ending_of_words<F: Files, S: Sink, L: Ledger>(
         Runs (map string_bytes words.now) held (F.held files.new) (S.written report.old) (S.written report.new) result }
     ensures usage { AsksNothing (map string_bytes words.now) →
         Says usage_line (S.written report.old) (S.written report.new) result × (F.held files.new ≡ F.held files.old) × (F.counts files.new ≡ F.counts files.old) }
-    ensures untold { result ≡ Ok ending.NotRun → (a : Asked) → Asks (map string_bytes words.now) a →
-        HasLine a.target (F.counts files.old) (F.counts files.new) (S.written report.old) (S.written report.new) }
+    ensures lines { (a : Asked) → Asks (map string_bytes words.now) a →
+        PutsCommand a.target (F.counts files.old) (F.counts files.new) (S.written report.old) (S.written report.new) result }
     ensures counts { NoneFell (F.counts files.old) (F.counts files.new) }
     ensures later { S.faults report.old ≤ S.faults report.new }
     ensures files { IsErrOf result Stop.Files → Rose (F.counts files.old).faults (F.counts files.new).faults }
@@ -77,8 +77,8 @@ pub fn run<F: Files, S: Sink, L: Ledger>(
         Outcome (Runs (map string_bytes words.now) held (F.held files.new) (S.written report.old) (S.written report.new)) result }
     ensures usage { AsksNothing (map string_bytes words.now) →
         Outcome (Says usage_line (S.written report.old) (S.written report.new)) result × (F.held files.new ≡ F.held files.old) × (F.counts files.new ≡ F.counts files.old) }
-    ensures refused { result ≡ 2 → (a : Asked) → Asks (map string_bytes words.now) a →
-        HasLine a.target (F.counts files.old) (F.counts files.new) (S.written report.old) (S.written report.new) }
+    ensures lines { (a : Asked) → Asks (map string_bytes words.now) a →
+        Outcome (PutsCommand a.target (F.counts files.old) (F.counts files.new) (S.written report.old) (S.written report.new)) result }
     ensures status { result ≤ 5 }
     ensures files { result ≡ 3 → Rose (F.counts files.old).faults (F.counts files.new).faults }
     ensures report { result ≡ 4 → Rose (S.faults report.old) (S.faults report.new) }

@@ -22,6 +22,7 @@ use Rattle.mig_model.proofs.Searches.{found_there, none_there, map-insert}
 use Rattle.mig_files.specs.Held.{Key, same_key, assign, Lists}
 use Rattle.mig_files.specs.Entries.{by_key, AreOrdered, names_in}
 use Rattle.mig_files.specs.Numbered.{held_by}
+use Rattle.mig_model.proofs.Bools.{split_and}
 
 pub by_key_total : IsTotalOrder by_key
 by_key_total = then_total (on_total (λ (k : Key). k.0) nat_list_cmp_total) (on_total (λ (k : Key). k.1) nat_list_cmp_total)
@@ -29,13 +30,9 @@ by_key_total = then_total (on_total (λ (k : Key). k.0) nat_list_cmp_total) (on_
 pub fun_ext : {A B : Type 0} (f g : A → B) → ((x : A) → f x ≡ g x) → f ≡ g
 fun_ext f g same = λ i x. same x i
 
-pub both : (a b : Bool) → (a && b) ≡ true → (a ≡ true) × (b ≡ true)
-both true b h = (refl, h)
-both false b h = absurd (cc h)
-
 pub is_same : (k q : Key) → same_key k q ≡ true → k ≡ q
 is_same k q h =
-    let p = both _ _ h in
+    let p = split_and _ _ h in
     let f : k.0 ≡ q.0 = (bytes_eq-Decides k.0 q.0).0 p.0 in
     let n : k.1 ≡ q.1 = (bytes_eq-Decides k.1 q.1).0 p.1 in
     (λ i. (f i, n i))

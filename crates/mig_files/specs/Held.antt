@@ -34,6 +34,10 @@ next count = min (count + 1) (2 ^ 64 - 1)
 abbrev pub Rose : ℕ → ℕ → Type 0
 Rose before now = next before ≤ now
 
+-- a count went up by at least so many, or stands at the last u64
+abbrev pub RoseBy : ℕ → ℕ → ℕ → Type 0
+RoseBy more before now = min (before + more) (2 ^ 64 - 1) ≤ now
+
 -- how often calls failed, and how often a read found nothing, or too many bytes
 pub record Counts : Type 0 where
   pub faults : ℕ

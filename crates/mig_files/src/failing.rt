@@ -1,4 +1,4 @@
-// The numbers of the calls that are to fail.
+//! The numbers of the calls that are to fail.
 ghost use Rattle.std.specs.Prelude.{◌≡◌};
 ghost use Rattle.mig_files.specs.Numbered.{is_listed};
 

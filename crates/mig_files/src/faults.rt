@@ -1,4 +1,4 @@
-// Why a call on files or on a sink was refused.
+//! Why a call on files or on a sink was refused.
 ghost use Rattle.std.specs.Prelude.{◌≡◌};
 ghost use Rattle.mig_files.specs.declared.faults.FileFault.TheVariants as file;
 ghost use Rattle.mig_files.specs.declared.faults.SinkFault.TheVariants as sink;

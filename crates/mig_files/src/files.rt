@@ -1,4 +1,4 @@
-// Folders of named bytes.
+//! Folders of named bytes.
 ghost use Rattle.std.specs.Prelude.{◌≡◌, ◌≤◌, length, map, Option, IfSome, IfOk, IsErrOf, string_bytes};
 ghost use Rattle.mig_files.specs.Held.{Held, Lists, Counts};
 ghost use Rattle.mig_files.specs.Told.{HasCause, IsNoReading, Reads, Writes};
@@ -16,7 +16,8 @@ pub trait Files {
 
     /// The names in a folder, each once, in any order.
     fn list(&mut self, alloc: Global, folder: &str) -> Result<Vec<String>, FileFault>
-        ensures names { IfSome (held self.old) (λ m. IfOk result (λ names. Lists m folder.now (map string_bytes names.items))) }
+        ensures names { IfSome (held self.old) (λ m. IfOk result (λ names.
+            Lists m folder.now (map string_bytes names.items))) }
         ensures same { held self.new ≡ held self.old }
         ensures no_reading { IsNoReading result }
         ensures cause { HasCause (counts self.old) (counts self.new) result };
@@ -32,7 +33,8 @@ pub trait Files {
         ensures bytes { IfSome (held self.old) (λ m. Reads (m (folder.now, name.now)) limit result) }
         ensures limit { IfOk result (λ bytes. length bytes.items ≤ limit) }
         ensures same { held self.new ≡ held self.old }
-        ensures absent { IsErrOf result FileFault.Absent → IfSome (held self.old) (λ _. (counts self.new).faults ≡ (counts self.old).faults) }
+        ensures absent { IsErrOf result FileFault.Absent → IfSome (held self.old) (λ _. (counts self.new).faults
+            ≡ (counts self.old).faults) }
         ensures cause { HasCause (counts self.old) (counts self.new) result };
 
     /// Sets the bytes of a file, which need not be there yet. After `Failed` that file is as it may be.
@@ -43,7 +45,8 @@ pub trait Files {
         name: &str,
         bytes: &[u8],
     ) -> Result<(), FileFault>
-        ensures written { IfSome (held self.old) (λ m. Writes m (folder.now, name.now) bytes.now (held self.new) result) }
+        ensures written { IfSome (held self.old) (λ m.
+            Writes m (folder.now, name.now) bytes.now (held self.new) result) }
         ensures no_reading { IsNoReading result }
         ensures cause { HasCause (counts self.old) (counts self.new) result };
 }

@@ -1,4 +1,4 @@
-// Real folders. They tell nothing of what they hold.
+//! Real folders. They tell nothing of what they hold.
 ghost use Rattle.std.specs.Prelude.{◌≡◌};
 
 use crate::{FileFault, Files};

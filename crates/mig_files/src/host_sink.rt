@@ -1,4 +1,4 @@
-// Standard output, or any writer. It tells nothing of what was written.
+//! Standard output, or any writer. It tells nothing of what was written.
 ghost use Rattle.std.specs.Prelude.{◌≡◌};
 
 use crate::{Sink, SinkFault};

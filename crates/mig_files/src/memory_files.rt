@@ -1,4 +1,4 @@
-// Files in memory, which tell all that they hold.
+//! Files in memory, which tell all that they hold.
 ghost use Rattle.std.specs.Prelude.{◌≡◌, [], ◌∷◌, ◌++◌, Some, OnOk, OnErr, option_map};
 ghost use Rattle.mig_files.specs.Held.{assign};
 ghost use Rattle.mig_files.specs.Numbered.{holds};
@@ -51,7 +51,8 @@ impl Model for MemoryFiles {
 impl MemoryFiles {
     /// Files that hold nothing, and of which no call is to fail.
     pub fn new(alloc: Global) -> MemoryFiles
-        ensures { result ≡ record { entries = []; calls = 0; failing = []; counts = record { faults = 0; absent = 0; long = 0 } } }
+        ensures { result
+            ≡ record { entries = []; calls = 0; failing = []; counts = record { faults = 0; absent = 0; long = 0 } } }
     {
         MemoryFiles {
             entries: Vec::new(alloc),
@@ -154,7 +155,8 @@ impl Entry {
     ) -> Result<(), AllocError>
         requires { AreOrdered (map entry_of entries.old.items) }
         ensures ordered { AreOrdered (map entry_of entries.new.items) }
-        ensures ok { OnOk result (held_by (map entry_of entries.new.items) ≡ assign (held_by (map entry_of entries.old.items)) (folder.now, name.now) (Some bytes.now)) }
+        ensures ok { OnOk result (held_by (map entry_of entries.new.items)
+            ≡ assign (held_by (map entry_of entries.old.items)) (folder.now, name.now) (Some bytes.now)) }
         ensures err { OnErr result (map entry_of entries.new.items ≡ map entry_of entries.old.items) }
     {
         let bytes = Vec::from_slice(alloc, bytes)?;
@@ -254,7 +256,8 @@ impl Files for MemoryFiles {
         bytes: &[u8],
     ) -> Result<(), FileFault>
         ensures written { Writes (holds self.old) (folder.now, name.now) bytes.now (Some (holds self.new)) result }
-        ensures half { IsErrOf result FileFault.Failed → holds self.new ≡ assign (holds self.old) (folder.now, name.now) (Some (first_half bytes.now)) }
+        ensures half { IsErrOf result FileFault.Failed → holds self.new
+            ≡ assign (holds self.old) (folder.now, name.now) (Some (first_half bytes.now)) }
         ensures no_reading { IsNoReading result }
         ensures cause { HasCause self.old.counts self.new.counts result }
         ensures numbered { Numbers self.old (record self.new { entries = self.old.entries }) result }

@@ -1,4 +1,4 @@
-// A sink in memory, which tells all its bytes.
+//! A sink in memory, which tells all its bytes.
 ghost use Rattle.std.specs.Prelude.{◌≡◌, [], ◌∷◌, ◌++◌, OnOk, OnErr};
 
 use crate::failing::lists;

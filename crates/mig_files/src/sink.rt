@@ -1,4 +1,4 @@
-// A taker of bytes.
+//! A taker of bytes.
 ghost use Rattle.std.specs.Prelude.{ℕ, List, Option, IfSome};
 ghost use Rattle.mig_files.specs.Told.{PutHasCause, Puts};
 

@@ -1,3 +1,4 @@
+//! Real folders and writers, and doubles that fail.
 use crate::{FileFault, Files, HostFiles, HostSink, MemoryFiles, MemorySink, Sink, SinkFault};
 use std::fs;
 use std::test::Fail;

@@ -3,6 +3,7 @@ use Rattle.std.specs.Prelude.{string_bytes}
 use Rattle.std.proofs.lemmas.Result.{err_from_is_err_and}
 use Rattle.lift_saves.specs.Folder.{after}
 use Rattle.lift_saves.specs.View.{job_at}
+use Rattle.lift_saves.proofs.Causes.{saves_more, saves_stop}
 use Rattle.lift_saves.proofs.Loop.{Done, one_more, one_stops, still_there, splits_at, takes_one, fell_not}
 use Rattle.lift_saves.proofs.folder.lift_all.Goals as goal
 
@@ -31,7 +32,15 @@ loop-name-preserved g c = (
       let s = c.in_ok-one.ensures.told held (after job done) there.0 d.0 there.1 in
       subst (λ (l : List (List ℕ)). Done job l (g.F.Files.held c.lift_save.new.files) (g.S.Sink.written c.args.report.now) (g.S.Sink.written c.lift_save.new.report) (c.loop-name.refused || c.in_ok-one.one)) (sym one)
       (one_more job done c.as_str.result.now (g.F.Files.held c.loop-name.files) (g.F.Files.held c.lift_save.new.files) (g.S.Sink.written c.args.report.now) (g.S.Sink.written c.loop-name.report) (g.S.Sink.written c.lift_save.new.report) c.loop-name.refused c.in_ok-one.one d s)),
-  fell_not c.loop-name.invariant.1 c.in_ok-one.ensures.counts,
-  omega (arith, c.loop-name.invariant.2, c.in_ok-one.ensures.later),
-  c.in_ok-one.ensures.steps ∙ c.loop-name.invariant.3,
+  saves_more c.args.migrator.now.target (g.F.Files.counts c.args.files.now) (g.F.Files.counts c.loop-name.files) (g.F.Files.counts c.lift_save.new.files) (g.S.Sink.written c.args.report.now) (g.S.Sink.written c.loop-name.report) (g.S.Sink.written c.lift_save.new.report)
+      c.loop-name.refused c.loop-name.invariant.1 c.in_ok-one.one c.in_ok-one.ensures.lines,
+  fell_not c.loop-name.invariant.2 c.in_ok-one.ensures.counts,
+  omega (arith, c.loop-name.invariant.3, c.in_ok-one.ensures.later),
+  c.in_ok-one.ensures.steps ∙ c.loop-name.invariant.4,
 )
+
+pub returns-in_err-one-clause-lines : goal.returns-in_err-one-clause-lines
+returns-in_err-one-clause-lines g c =
+    let p = err_from_is_err_and c.from_residual.result c.from_residual.ensures.1 in
+    rw (p.1, p.2) (saves_stop c.args.migrator.now.target (g.F.Files.counts c.args.files.now) (g.F.Files.counts c.loop-name.files) (g.F.Files.counts c.lift_save.new.files) (g.S.Sink.written c.args.report.now) (g.S.Sink.written c.loop-name.report) (g.S.Sink.written c.lift_save.new.report)
+    c.loop-name.refused c.loop-name.invariant.1 c.in_err-one.field-0.0 c.in_err-one.ensures.lines)

@@ -1,6 +1,7 @@
-use Rattle.std.proofs.Common.{◌≡◌, ◌≤◌, Some, take, map}
+use Rattle.std.proofs.Common.{◌≡◌, ◌≤◌, Some, Ok, take, map}
 use Rattle.std.specs.Prelude.{string_bytes}
 use Rattle.mig_files.specs.Held.{Held, NoneFell}
+use Rattle.lift_saves.specs.Causes.{PutsSaves}
 use Rattle.lift_saves.specs.Folder.{AreThere, after, Grows, lines, any_refused}
 use Rattle.lift_saves.specs.View.{job_at}
 use Rattle.lift_saves.proofs.folder.lift_all.Given as goal
@@ -12,6 +13,7 @@ invariant-loop-name g l =
     (g.F.Files.held l.files ≡ Some (after (job_at l.migrator l.folders.from.now l.folders.to.now held) (take l.name-index (map string_bytes l.names))))
     × Grows (g.S.Sink.written l.fn.report) (g.S.Sink.written l.report) (lines (job_at l.migrator l.folders.from.now l.folders.to.now held) (take l.name-index (map string_bytes l.names)))
     × (l.refused ≡ any_refused (job_at l.migrator l.folders.from.now l.folders.to.now held) (take l.name-index (map string_bytes l.names))))
+    × PutsSaves l.migrator.target (g.F.Files.counts l.fn.files) (g.F.Files.counts l.files) (g.S.Sink.written l.fn.report) (g.S.Sink.written l.report) (Ok l.refused)
     × NoneFell (g.F.Files.counts l.fn.files) (g.F.Files.counts l.files)
     × (g.S.Sink.faults l.fn.report ≤ g.S.Sink.faults l.report)
     × (l.steps ≡ l.fn.steps)

@@ -8,5 +8,5 @@ returns-clause-told g c held h = runs (map string_bytes c.args.words.now) held _
 pub returns-clause-usage : goal.returns-clause-usage
 returns-clause-usage g c h = c.answer.ensures.usage (nothing_asked (map string_bytes c.args.words.now) h)
 
-pub returns-clause-untold : goal.returns-clause-untold
-returns-clause-untold g c e a h = of_asked (map string_bytes c.args.words.now) _ (c.answer.ensures.untold e) a h
+pub returns-clause-lines : goal.returns-clause-lines
+returns-clause-lines g c a h = of_asked (map string_bytes c.args.words.now) _ c.answer.ensures.lines a h

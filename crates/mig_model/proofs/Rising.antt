@@ -10,8 +10,7 @@ use Rattle.std.specs.Map.{keys_of}
 use Rattle.std.proofs.lemmas.Cmp.{nat_list_cmp_total}
 use Rattle.std.proofs.lemmas.List.{length-map, get_or-map}
 use Rattle.std.proofs.lemmas.Map.Keys.{Less-from_sorted, apart_from_distinct, sorted_from_all_adjacent}
-use Rattle.mig_model.specs.Ascends.{Ascends, AscendBy}
-use Rattle.mig_model.specs.Names.{by_bytes}
+use Rattle.mig_model.specs.Names.{Ascends, AscendBy, by_bytes}
 
 neither : (r s : Ordering) → r ≡ ordering_reverse s → is_lt s ≡ false → is_eq r ≡ false → r ≡ Less
 neither Less s h a b = refl

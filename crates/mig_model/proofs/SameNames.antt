@@ -7,8 +7,8 @@ use Rattle.std.proofs.lemmas.Cmp.{nat_list_cmp_total, tied_itself}
 use Rattle.std.proofs.lemmas.Map.Lookups.{exact_bytes}
 use Rattle.mig_model.specs.declared.kind.Kind.{Kind}
 use Rattle.mig_model.specs.declared.kind.Kind.TheVariants as K
-use Rattle.mig_model.specs.Names.{by_bytes}
-use Rattle.mig_model.specs.Template.{same_name, same_kind}
+use Rattle.mig_model.specs.Names.{by_bytes, same_name}
+use Rattle.mig_model.specs.Template.{same_kind}
 use Rattle.mig_model.proofs.Ascending.{flips}
 
 pub same_name_is : (a b : List ℕ) → same_name a b ≡ true → a ≡ b

@@ -6,7 +6,8 @@ use Rattle.mig_model.specs.declared.kind.Kind.{Kind}
 use Rattle.mig_model.specs.declared.kind.Kind.TheVariants as K
 use Rattle.mig_model.specs.declared.presence.Presence.{Presence}
 use Rattle.mig_model.specs.declared.presence.Presence.TheVariants.{Must}
-use Rattle.mig_model.specs.Template.{Template, leaf, any, list, point, rec, sum, Fields, no_field, field, Choice, no_choice, choice, Cases, no_case, case, same_name, is_of_form, is_nbt, is_leaf, has_kind}
+use Rattle.mig_model.specs.Template.{Template, leaf, any, list, point, rec, sum, Fields, no_field, field, Choice, no_choice, choice, Cases, no_case, case, is_of_form, is_nbt, is_leaf, has_kind}
+use Rattle.mig_model.specs.Names.{same_name, has_twice}
 use Rattle.mig_model.specs.Fields.{find_field, is_field, is_in_choice}
 
 -- the version stands under a path of names from the root
@@ -87,6 +88,10 @@ abbrev pub is_point : Template → Bool
 is_point (point n) = true
 is_point V = false
 
+-- a point occurs in it
+abbrev pub has_point : Template → Bool
+has_point = any_inside is_point
+
 abbrev pub has_point_side : Template → Bool
 has_point_side (sum V W) = is_point V || is_point W
 has_point_side V = false
@@ -144,10 +149,6 @@ last_name (x ∷ (y ∷ xs)) = last_name (y ∷ xs)
 abbrev pub holds : {A : Type 0} → (A → Bool) → Option A → Bool
 holds p None = false
 holds p (Some a) = p a
-
-abbrev pub has_twice : List (List ℕ) → Bool
-has_twice [] = false
-has_twice (n ∷ ns) = list_any (same_name n) ns || has_twice ns
 
 -- the eleven faults of a family
 pub data Flaw : Type 0 where

@@ -3,8 +3,8 @@ use Rattle.std.specs.Prelude.{ℕ, List, Bool, false, not, ◌&&◌, ◌||◌, O
 use Rattle.std.specs.BTreeMap.{insert_entry, is_at}
 use Rattle.std.specs.Map.{lookup, remove_entry}
 use Rattle.mig_model.specs.declared.presence.Presence.{Presence}
-use Rattle.mig_model.specs.Names.{by_bytes}
-use Rattle.mig_model.specs.Template.{Template, Fields, fields_of, field_list, Choice, no_choice, choice, Cases, no_case, case, same_name}
+use Rattle.mig_model.specs.Names.{by_bytes, same_name}
+use Rattle.mig_model.specs.Template.{Template, Fields, fields_of, field_list, Choice, no_choice, choice, Cases, no_case, case}
 
 -- the presence and template of a field
 abbrev pub find_field : List ℕ → Fields → Option (Presence × Template)

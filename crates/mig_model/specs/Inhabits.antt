@@ -7,8 +7,8 @@ use Rattle.mig_model.specs.declared.rest.Rest.{Rest}
 use Rattle.mig_model.specs.Plain as plain
 use Rattle.mig_model.specs.Plain.{Plain, Trees, no_tree, tree, Pairs, no_pair, pair, items, entries}
 use Rattle.mig_model.specs.Kinds.{kind_of}
-use Rattle.mig_model.specs.Names.{found}
-use Rattle.mig_model.specs.Template.{Template, leaf, any, list, point, rec, sum, Fields, no_field, field, Choice, no_choice, choice, Cases, no_case, case, same_name, same_kind, is_of_form, is_must, is_open}
+use Rattle.mig_model.specs.Names.{under, same_name}
+use Rattle.mig_model.specs.Template.{Template, leaf, any, list, point, rec, sum, Fields, no_field, field, Choice, no_choice, choice, Cases, no_case, case, same_kind, is_of_form, is_must, is_open}
 
 -- the pairs of a map
 abbrev pub Entries : Type 0
@@ -68,7 +68,7 @@ is_text l o = false
 
 -- the map's tag is the literal l
 abbrev pub has_tag : List ℕ → List ℕ → Entries → Bool
-has_tag tag l es = is_text l (found tag es)
+has_tag tag l es = is_text l (under tag es)
 
 -- the map's tag is a text
 abbrev pub is_some_text : Option Plain → Bool
@@ -76,12 +76,12 @@ is_some_text (Some (plain.text s)) = true
 is_some_text o = false
 
 abbrev pub has_text : List ℕ → Entries → Bool
-has_text tag es = is_some_text (found tag es)
+has_text tag es = is_some_text (under tag es)
 
 -- each Must field is there
 abbrev pub has_musts : Fields → Entries → Bool
 has_musts no_field es = true
-has_musts (field x p V fs) es = (not (is_must p) || is_some (found x es)) && has_musts fs es
+has_musts (field x p V fs) es = (not (is_must p) || is_some (under x es)) && has_musts fs es
 
 -- the tag is a case's literal, and the Must fields of that case are there; or it is another text, which is kept
 abbrev pub has_case : List ℕ → Cases → Bool → Entries → Bool

@@ -2,7 +2,7 @@
 use Rattle.std.specs.Prelude.{ℕ, ◌^◌, ◌<◌, List, length, FitsSigned}
 use Rattle.std.specs.Int.{w8, w16, w32, w64}
 use Rattle.mig_model.specs.Plain.{Plain, byte, short, int, long, float, double, text, bytes, ints, longs, list, map, null, boolean, whole, Trees, no_tree, tree, Pairs, no_pair, pair, items, entries, trees_of, pairs_of}
-use Rattle.mig_model.specs.Names.{IsNamed}
+use Rattle.mig_model.specs.Names.{Ascends}
 
 abbrev pub IsShort : {A : Type 0} → List A → Type 0
 IsShort xs = length xs < 2 ^ 64
@@ -21,7 +21,7 @@ abbrev mutual
   Keeps (ints s) = IsShort s
   Keeps (longs s) = IsShort s
   Keeps (list ts) = IsShort (items ts) × AllKeep ts
-  Keeps (map ps) = IsNamed (entries ps) × IsShort (entries ps) × AllPairsKeep ps
+  Keeps (map ps) = Ascends (entries ps) × IsShort (entries ps) × AllPairsKeep ps
   Keeps null = Unit {0}
   Keeps (boolean b) = Unit {0}
 
@@ -39,4 +39,4 @@ ItemsKeep ts = IsShort ts × AllKeep (trees_of ts)
 
 -- the pairs of one map
 abbrev pub EntriesKeep : List (List ℕ × Plain) → Type 0
-EntriesKeep ps = IsNamed ps × IsShort ps × AllPairsKeep (pairs_of ps)
+EntriesKeep ps = Ascends ps × IsShort ps × AllPairsKeep (pairs_of ps)

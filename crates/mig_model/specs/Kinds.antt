@@ -3,7 +3,7 @@ use Rattle.std.specs.Prelude.{◌≡◌, ℕ, List, [], ◌∷◌, Option, None,
 use Rattle.std.proofs.Common.{ap}
 use Rattle.mig_model.specs.Plain as plain
 use Rattle.mig_model.specs.Plain.{Plain, trees_of, items, pairs_of, entries}
-use Rattle.mig_model.specs.Names.{with_pair, without, found}
+use Rattle.mig_model.specs.Names.{without, put, under}
 use Rattle.mig_model.specs.declared.kind.Kind.{Kind}
 use Rattle.mig_model.specs.declared.kind.Kind.TheVariants as K
 
@@ -30,12 +30,12 @@ IsMap _ = ⊥
 
 -- the tree under a name
 abbrev pub get_in : List ℕ → Plain → Option Plain
-get_in name (plain.map ps) = found name (entries ps)
+get_in name (plain.map ps) = under name (entries ps)
 get_in name _ = None
 
 -- a map with a pair
 abbrev pub put_in : List ℕ → Plain → Plain → Plain
-put_in name t (plain.map ps) = plain.map (pairs_of (with_pair name t (entries ps)))
+put_in name t (plain.map ps) = plain.map (pairs_of (put name t (entries ps)))
 put_in name t u = u
 
 -- a map without a name

@@ -11,5 +11,4 @@ pub mod Fields
 pub mod Family
 pub mod Place
 pub mod Version
-pub mod Ascends
 pub mod Leaf

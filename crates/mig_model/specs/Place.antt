@@ -6,8 +6,8 @@ use Rattle.mig_model.specs.declared.rest.Rest.{Rest}
 use Rattle.mig_model.specs.Plain as plain
 use Rattle.mig_model.specs.Plain.{Plain, items, entries}
 use Rattle.mig_model.specs.Kinds.{kind_of}
-use Rattle.mig_model.specs.Names.{by_bytes, found}
-use Rattle.mig_model.specs.Template.{Template, leaf, any, list, point, rec, sum, Fields, no_field, field, Choice, no_choice, choice, Cases, no_case, case, same_name, same_kind, has_kind, is_must, is_open}
+use Rattle.mig_model.specs.Names.{by_bytes, under, same_name}
+use Rattle.mig_model.specs.Template.{Template, leaf, any, list, point, rec, sum, Fields, no_field, field, Choice, no_choice, choice, Cases, no_case, case, same_kind, has_kind, is_must, is_open}
 use Rattle.mig_model.specs.Inhabits.{Entries, is_in_form, has_tag, has_text, depth}
 use Rattle.mig_model.specs.Family.{Family, body}
 
@@ -29,9 +29,9 @@ sooner None b = b
 sooner (Some a) None = Some a
 sooner (Some a) (Some b) = if is_lt (by_bytes b.0 a.0) then Some b else Some a
 
-abbrev pub under : Wrong → Option Place
-under None = None
-under (Some a) = Some (named a.0 ∷ a.1)
+abbrev pub place_under : Wrong → Option Place
+place_under None = None
+place_under (Some a) = Some (named a.0 ∷ a.1)
 
 -- the first item that is wrong, counted from i
 abbrev pub or_else : Option Place → Option Place → Option Place
@@ -62,7 +62,7 @@ wrong_entry w (e ∷ es) = at_name e.0 (w e.0 e.1) (wrong_entry w es)
 -- the first Must field that isn't there
 abbrev pub missing : Fields → Entries → Wrong
 missing no_field es = None
-missing (field x p V fs) es = if not (is_must p) || is_some (found x es) then missing fs es else Some (x, [])
+missing (field x p V fs) es = if not (is_must p) || is_some (under x es) then missing fs es else Some (x, [])
 
 abbrev pub missing_in_case : List ℕ → Cases → Entries → Wrong
 missing_in_case tag no_case es = None
@@ -78,8 +78,8 @@ is_tagged tag cs kept es = is_literal tag cs es || (kept && has_text tag es)
 
 -- of a map's pairs and the Must fields, the first name that is wrong; the tag's name where the tag is
 abbrev pub wrong_map : Fields → Choice → Entries → Wrong → Option Place
-wrong_map fs no_choice es bad = under (sooner bad (missing fs es))
-wrong_map fs (choice tag cs kept) es bad = if is_tagged tag cs kept es then under (sooner bad (sooner (missing fs es) (missing_in_case tag cs es))) else Some (named tag ∷ [])
+wrong_map fs no_choice es bad = place_under (sooner bad (missing fs es))
+wrong_map fs (choice tag cs kept) es bad = if is_tagged tag cs kept es then place_under (sooner bad (sooner (missing fs es) (missing_in_case tag cs es))) else Some (named tag ∷ [])
 
 abbrev pub unless : Bool → Option Place
 unless b = if b then None else Some []

@@ -9,7 +9,7 @@ use Rattle.mig_model.specs.declared.presence.Presence.{Presence}
 use Rattle.mig_model.specs.declared.presence.Presence.TheVariants.{Must, May}
 use Rattle.mig_model.specs.declared.rest.Rest.{Rest}
 use Rattle.mig_model.specs.declared.rest.Rest.TheVariants.{Open, Closed}
-use Rattle.mig_model.specs.Names.{by_bytes}
+use Rattle.mig_model.specs.Names.{by_bytes, same_name}
 
 mutual
   -- a leaf of a kind, any tree of the form, a list, a named type, a record, or one of two
@@ -53,10 +53,6 @@ cases_of (c ∷ cs) = case c.0 (fields_of c.1) (cases_of cs)
 abbrev pub case_list : Cases → List (List ℕ × List Field)
 case_list no_case = []
 case_list (case l fs cs) = (l, field_list fs) ∷ case_list cs
-
--- two names have the same bytes
-abbrev pub same_name : List ℕ → List ℕ → Bool
-same_name x y = is_eq (by_bytes x y)
 
 abbrev pub kind_number : Kind → ℕ
 kind_number K.Byte = 0
@@ -118,24 +114,3 @@ is_must May = false
 abbrev pub is_open : Rest → Bool
 is_open Open = true
 is_open Closed = false
-
--- a point occurs in it
-abbrev mutual
-  pub has_point : Template → Bool
-  has_point (list V) = has_point V
-  has_point (point n) = true
-  has_point (rec fs c r) = fields_have_point fs || choice_has_point c
-  has_point (sum V W) = has_point V || has_point W
-  has_point V = false
-
-  pub fields_have_point : Fields → Bool
-  fields_have_point no_field = false
-  fields_have_point (field x p V fs) = has_point V || fields_have_point fs
-
-  pub choice_has_point : Choice → Bool
-  choice_has_point no_choice = false
-  choice_has_point (choice tag cs kept) = cases_have_point cs
-
-  pub cases_have_point : Cases → Bool
-  cases_have_point no_case = false
-  cases_have_point (case l fs cs) = fields_have_point fs || cases_have_point cs

@@ -1,8 +1,7 @@
 //! Lists of what has a name: sorting by it, the test that it ascends, and the search for it, once for all such lists.
 ghost use Rattle.std.specs.Prelude.{◌≡◌, ◌↔◌, ℕ, List, length, IsTrue, IsPermutation};
 ghost use Rattle.std.specs.List.Sorted.{IsSortedByKey, IsSearchInRange, IsBinarySearchResult};
-ghost use Rattle.mig_model.specs.Ascends.{AscendBy};
-ghost use Rattle.mig_model.specs.Names.{by_bytes};
+ghost use Rattle.mig_model.specs.Names.{AscendBy, by_bytes};
 
 use std::cmp::Ordering;
 

@@ -4,6 +4,7 @@
 mod form;
 mod keyed;
 mod kind;
+mod limits;
 mod memory;
 mod name;
 mod presence;
@@ -12,6 +13,7 @@ mod rest;
 pub use form::Form;
 pub use keyed::{Keyed, ascends, place_by_key, sort_by_key};
 pub use kind::Kind;
+pub use limits::{LAST_VERSION, MOST_CHAIN_BYTES, MOST_SAVE_BYTES};
 pub use memory::Memory;
 pub use name::Name;
 pub use presence::Presence;

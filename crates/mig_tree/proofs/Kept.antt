@@ -11,7 +11,7 @@ use Rattle.mig_model.specs.Plain as plain
 use Rattle.mig_model.specs.Plain.{Plain, trees_of, pairs_of, items, entries}
 use Rattle.mig_model.specs.Kinds.{items_of_trees, entries_of_pairs}
 use Rattle.mig_model.specs.Keeps.{Keeps, IsShort, ItemsKeep, AllKeep, EntriesKeep, AllPairsKeep}
-use Rattle.mig_model.specs.Names.{by_bytes, IsNamed}
+use Rattle.mig_model.specs.Names.{by_bytes, Ascends}
 use Rattle.mig_model.proofs.Searches.{inserted_sorted, replaced_sorted, removed_sorted}
 use Rattle.mig_tree.specs.View.{plain_of, entry_of}
 use Rattle.mig_tree.specs.declared.tree.Tree.{Tree}
@@ -21,7 +21,7 @@ pub list_keeps : (ts : List Plain) → ItemsKeep ts → Keeps (plain.list (trees
 list_keeps ts k = (subst IsShort (sym (items_of_trees ts)) k.0, k.1)
 
 pub map_keeps : (ps : List (List ℕ × Plain)) → EntriesKeep ps → Keeps (plain.map (pairs_of ps))
-map_keeps ps k = (subst IsNamed (sym (entries_of_pairs ps)) k.0, subst IsShort (sym (entries_of_pairs ps)) k.1, k.2)
+map_keeps ps k = (subst Ascends (sym (entries_of_pairs ps)) k.0, subst IsShort (sym (entries_of_pairs ps)) k.1, k.2)
 
 few_mapped : {A B : Type 0} (f : A → B) (xs : List A) → length xs < 2 ^ 64 → IsShort (map f xs)
 few_mapped f xs h = omega (arith, length-map xs f)
@@ -79,7 +79,7 @@ removed_keeps xs i k =
     let few : length (remove xs i) < 2 ^ 64 = omega (arith, fewer xs i, short_mapped xs k.1) in
     (removed_sorted by_bytes entry_of xs i k.0, few_mapped entry_of (remove xs i) few, all_removed xs i k.2)
 
-none_named : IsNamed []
+none_named : Ascends {A = Plain} []
 unfolding IsStrictlySortedBy
 none_named = tt
 

@@ -2,7 +2,7 @@
 ghost use Rattle.std.specs.Prelude.{◌≡◌, [], IfOk, OnOk, OnErr, length, map, option_map, is_some, if◌then◌else◌};
 ghost use Rattle.std.specs.List.Sorted.{IsSearchInRange};
 ghost use Rattle.std_collections.specs.Layout.BTreeMap.{seek};
-ghost use Rattle.mig_model.specs.Names.{by_bytes, IsNamed, with_pair, without, found};
+ghost use Rattle.mig_model.specs.Names.{by_bytes, without, Ascends, put, under};
 ghost use Rattle.mig_model.specs.Keeps.{EntriesKeep};
 
 use crate::{Memory, Text, Tree};
@@ -81,7 +81,7 @@ impl<'a> Entries<'a> {
 
     /// Where the name is, or where it would go. It takes log n comparisons.
     fn place(list: &[Entry], name: &[u8]) -> Result<usize, usize>
-        requires { IsNamed (map entry_of list.now) }
+        requires { Ascends (map entry_of list.now) }
         ensures bound { IsSearchInRange result (length list.now) }
         ensures place { result ≡ seek (by_bytes name.now) (map entry_of list.now) }
     {
@@ -107,7 +107,7 @@ impl<'a> Entries<'a> {
 
     /// The tree under the name.
     pub fn get(&self, name: &[u8]) -> Option<&Tree<'a>>
-        ensures { option_map (λ t. plain_of t.now) result ≡ found name.now self.now }
+        ensures { option_map (λ t. plain_of t.now) result ≡ under name.now self.now }
     {
         match Entries::place(self.list.as_slice(), name) {
             Ok(at) => Some(&self.list[at].tree),
@@ -117,7 +117,7 @@ impl<'a> Entries<'a> {
 
     /// Puts the tree under the name, in place of an earlier one. An `Err` changes nothing.
     pub fn put(&mut self, name: Text<'a>, tree: Tree<'a>) -> Result<(), Memory>
-        ensures ok { OnOk result (self.new ≡ with_pair name.entry (plain_of tree.entry) self.old) }
+        ensures ok { OnOk result (self.new ≡ put name.entry (plain_of tree.entry) self.old) }
         ensures err { OnErr result (self.new ≡ self.old) }
     {
         name.keeps();
@@ -138,9 +138,9 @@ impl<'a> Entries<'a> {
 
     /// Puts the tree in place of the one that stands under the name, which is answered; where the name isn't there, nothing changes. It takes no memory.
     pub fn swap(&mut self, name: &[u8], tree: Tree<'a>) -> Option<Tree<'a>>
-        ensures tree { option_map plain_of result ≡ found name.now self.old }
+        ensures tree { option_map plain_of result ≡ under name.now self.old }
         ensures rest { self.new
-            ≡ (if is_some (found name.now self.old) then with_pair name.now
+            ≡ (if is_some (under name.now self.old) then put name.now
             (plain_of tree.entry) self.old else self.old) }
     {
         tree.keeps();
@@ -156,7 +156,7 @@ impl<'a> Entries<'a> {
 
     /// Takes the pair of the name out and answers its tree.
     pub fn remove(&mut self, name: &[u8]) -> Option<Tree<'a>>
-        ensures tree { option_map plain_of result ≡ found name.now self.old }
+        ensures tree { option_map plain_of result ≡ under name.now self.old }
         ensures rest { self.new ≡ without name.now self.old }
     {
         match Entries::place(self.list.as_slice(), name) {

@@ -1,7 +1,7 @@
 //! The one map of pairs that come in any order.
 ghost use Rattle.std.specs.Prelude.{ℕ, List, map, IsTrue, IsPermutation, IfSome, IfNone};
 ghost use Rattle.mig_model.specs.Plain.{Plain, pairs_of};
-ghost use Rattle.mig_model.specs.Names.{IsNamed};
+ghost use Rattle.mig_model.specs.Names.{Ascends};
 ghost use Rattle.mig_model.specs.Keeps.{IsShort, AllPairsKeep, EntriesKeep};
 ghost use Rattle.mig_tree.specs.View.{entry_of};
 
@@ -27,7 +27,7 @@ pub fn gather<'a>(mut list: Vec<Entry<'a>>) -> Option<Entries<'a>>
     ensures found { IfSome result (IsPermutation (map entry_of list.entry.items)) }
     ensures keep { IfSome result EntriesKeep }
     ensures twice { IfNone result ((ps : List (List ℕ × Plain)) →
-        IsPermutation (map entry_of list.entry.items) ps → IsNamed ps → ⊥) }
+        IsPermutation (map entry_of list.entry.items) ps → Ascends ps → ⊥) }
 {
     sort_by_key(&mut list);
     if !ascends(&list) {

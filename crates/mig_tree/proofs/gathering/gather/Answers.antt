@@ -1,9 +1,8 @@
 use Rattle.std.proofs.Common.{rules, List, map, subst, sym}
 use Rattle.std.specs.Prelude.{IsPermutation, IsTrue}
 use Rattle.std.proofs.lemmas.List.Sorted.{IsPermutation-map, IsPermutation-sym, IsPermutation-trans}
-use Rattle.mig_model.specs.Ascends.{AscendBy}
+use Rattle.mig_model.specs.Names.{AscendBy, Ascends}
 use Rattle.mig_model.specs.Keeps.{IsShort, AllPairsKeep}
-use Rattle.mig_model.specs.Names.{IsNamed}
 use Rattle.mig_model.specs.Plain.{pairs_of}
 use Rattle.mig_model.proofs.Rising.{ascend_by, by_ascends}
 use Rattle.mig_tree.specs.View.{entry_of}
@@ -17,7 +16,7 @@ returns-then-not-ascends-clause-twice c =
     let after = c.sort_by_key.new.list.items in
     let moved : IsPermutation (map entry_of before) (map entry_of after) = IsPermutation-map entry_of before after c.sort_by_key.ensures.permutation in
     λ ps same named.
-    let rises : IsNamed (map entry_of after) =
+    let rises : Ascends (map entry_of after) =
     named_if_any after ps c.sort_by_key.ensures.sorted (IsPermutation-trans _ _ _ (IsPermutation-sym _ _ moved) same) named in
     let told : IsTrue c.ascends.result = c.ascends.ensures.1 (subst (λ (l : List Entry). AscendBy (λ e. e.name) l) (sym c.deref.ensures.value) (ascend_by entry_of after rises)) in
     absurd cc
@@ -26,7 +25,7 @@ pub new-requires : goal.new-requires
 new-requires c =
     let after = c.sort_by_key.new.list.items in
     let told : IsTrue c.ascends.result = search rules in
-    let rises : IsNamed (map entry_of after) = by_ascends entry_of after (subst (λ (l : List Entry). AscendBy (λ e. e.name) l) c.deref.ensures.value (c.ascends.ensures.0 told)) in
+    let rises : Ascends (map entry_of after) = by_ascends entry_of after (subst (λ (l : List Entry). AscendBy (λ e. e.name) l) c.deref.ensures.value (c.ascends.ensures.0 told)) in
     let kept = c.deref-2.ensures.value in (
       rises,
       subst (λ (l : List Entry). IsShort (map entry_of l)) kept c.entries_are_kept.ensures.short,

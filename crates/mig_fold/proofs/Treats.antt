@@ -6,8 +6,8 @@ use Rattle.mig_model.specs.declared.rest.Rest.{Rest}
 use Rattle.mig_model.specs.Plain as plain
 use Rattle.mig_model.specs.Plain.{Plain, trees_of, items, pairs_of, entries}
 use Rattle.mig_model.specs.Kinds.{kind_of, items_of_trees, entries_of_pairs}
-use Rattle.mig_model.specs.Names.{found}
-use Rattle.mig_model.specs.Template.{Template, leaf, any, list, point, rec, sum, Fields, no_field, field, Choice, no_choice, choice, Cases, no_case, case, same_name, has_kind, is_must}
+use Rattle.mig_model.specs.Names.{under, same_name}
+use Rattle.mig_model.specs.Template.{Template, leaf, any, list, point, rec, sum, Fields, no_field, field, Choice, no_choice, choice, Cases, no_case, case, has_kind, is_must}
 use Rattle.mig_model.specs.Inhabits.{Entries, EachItem, IsListOf, EachEntry, IsMapOf, is_text, is_some_text, has_tag, has_musts, has_case, is_complete, Unknown, Fits, FieldsFit, ChoiceFits, CasesFit}
 use Rattle.mig_model.specs.Plain.{on_items, on_entries, each_entry}
 use Rattle.mig_fold.specs.Fold.{treat, treat_fields, treat_choice, treat_cases}
@@ -46,25 +46,25 @@ kind_on_entries f (plain.map ps) = refl
 kind_on_entries f t = refl
 
 -- names and tags
-pub found_each : (g : Treatment) (x : List ℕ) (es : Entries) → found x (each_entry g es) ≡ option_map (g x) (found x es)
+pub found_each : (g : Treatment) (x : List ℕ) (es : Entries) → under x (each_entry g es) ≡ option_map (g x) (under x es)
 found_each g x [] = refl
 found_each g x (e ∷ es) = go (same_name x e.0) refl (found_each g x es)
   where
-    go : (b : Bool) → same_name x e.0 ≡ b → found x (each_entry g es) ≡ option_map (g x) (found x es)
-        → (if b then Some (g e.0 e.1) else found x (each_entry g es)) ≡ option_map (g x) (if b then Some e.1 else found x es)
+    go : (b : Bool) → same_name x e.0 ≡ b → under x (each_entry g es) ≡ option_map (g x) (under x es)
+        → (if b then Some (g e.0 e.1) else under x (each_entry g es)) ≡ option_map (g x) (if b then Some e.1 else under x es)
     go true h ih = ap (λ m. Some (g m e.1)) (sym (same_name_is x e.0 h))
     go false h ih = ih
 
-there_each : (g : Treatment) (x : List ℕ) (es : Entries) → is_some (found x (each_entry g es)) ≡ is_some (found x es)
-there_each g x es = ap is_some (found_each g x es) ∙ kept (found x es)
+there_each : (g : Treatment) (x : List ℕ) (es : Entries) → is_some (under x (each_entry g es)) ≡ is_some (under x es)
+there_each g x es = ap is_some (found_each g x es) ∙ kept (under x es)
   where
     kept : (o : Option Plain) → is_some (option_map (g x) o) ≡ is_some o
     kept None = refl
     kept (Some t) = refl
 
 -- a tag that stays is what it was before
-pub tag_found : (g : Treatment) (tag : List ℕ) (es : Entries) → ((t : Plain) → g tag t ≡ t) → found tag (each_entry g es) ≡ found tag es
-tag_found g tag es stays = found_each g tag es ∙ same (found tag es)
+pub tag_found : (g : Treatment) (tag : List ℕ) (es : Entries) → ((t : Plain) → g tag t ≡ t) → under tag (each_entry g es) ≡ under tag es
+tag_found g tag es stays = found_each g tag es ∙ same (under tag es)
   where
     same : (o : Option Plain) → option_map (g tag) o ≡ o
     same None = refl
@@ -77,7 +77,7 @@ musts_each : (g : Treatment) (fs : Fields) (es : Entries) → has_musts fs (each
 musts_each g no_field es = refl
 musts_each g (field x p V fs) es = ap₂ (λ a b. (not (is_must p) || a) && b) (there_each g x es) (musts_each g fs es)
 
-case_each : (g : Treatment) (tag : List ℕ) (cs : Cases) (kept : Bool) (es : Entries) → found tag (each_entry g es) ≡ found tag es → has_case tag cs kept (each_entry g es) ≡ has_case tag cs kept es
+case_each : (g : Treatment) (tag : List ℕ) (cs : Cases) (kept : Bool) (es : Entries) → under tag (each_entry g es) ≡ under tag es → has_case tag cs kept (each_entry g es) ≡ has_case tag cs kept es
 case_each g tag no_case kept es e = ap (λ o. kept && is_some_text o) e
 case_each g tag (case l fs cs) kept es e = rw (ap (is_text l) e) (if_agree (has_tag tag l es) (musts_each g fs es) (case_each g tag cs kept es e))
 

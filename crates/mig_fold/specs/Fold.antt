@@ -3,7 +3,8 @@ use Rattle.std.specs.Prelude.{ℕ, zero, suc, List, Bool, false, if◌then◌els
 use Rattle.mig_model.specs.declared.form.Form.{Form}
 use Rattle.mig_model.specs.Plain.{Plain, on_items, on_entries, each_entry}
 use Rattle.mig_model.specs.Kinds.{kind_of}
-use Rattle.mig_model.specs.Template.{Template, leaf, any, list, point, rec, sum, Fields, no_field, field, Choice, no_choice, choice, Cases, no_case, case, same_name, has_kind}
+use Rattle.mig_model.specs.Template.{Template, leaf, any, list, point, rec, sum, Fields, no_field, field, Choice, no_choice, choice, Cases, no_case, case, has_kind}
+use Rattle.mig_model.specs.Names.{same_name}
 use Rattle.mig_model.specs.Inhabits.{Entries, has_tag, depth}
 
 -- h is done to each tree that stands at a point of the template, and all else stays

@@ -8,10 +8,10 @@ use Rattle.mig_model.specs.declared.rest.Rest.{Rest}
 use Rattle.mig_model.specs.Plain as plain
 use Rattle.mig_model.specs.Plain.{Plain, items, entries}
 use Rattle.mig_model.specs.Kinds.{kind_of}
-use Rattle.mig_model.specs.Names.{by_bytes, found}
-use Rattle.mig_model.specs.Template.{Template, leaf, any, list, point, rec, sum, Fields, no_field, field, Choice, no_choice, choice, Cases, no_case, case, same_name, same_kind, has_kind, is_must, is_open}
+use Rattle.mig_model.specs.Names.{by_bytes, under, same_name}
+use Rattle.mig_model.specs.Template.{Template, leaf, any, list, point, rec, sum, Fields, no_field, field, Choice, no_choice, choice, Cases, no_case, case, same_kind, has_kind, is_must, is_open}
 use Rattle.mig_model.specs.Inhabits.{Entries, EachItem, IsListOf, EachEntry, IsMapOf, has_tag, has_text, is_in_form, has_musts, has_case, is_complete, Unknown, Fits, FieldsFit, ChoiceFits, CasesFit, InhabitsWithin}
-use Rattle.mig_model.specs.Place.{Place, PlaceStep, Wrong, named, index, sooner, under, or_else, wrong_item, within_list, within_map, at_name, wrong_entry, missing, missing_in_case, is_literal, is_tagged, wrong_map, unless, wrong, wrong_fields, wrong_choice, wrong_cases, place_within}
+use Rattle.mig_model.specs.Place.{Place, PlaceStep, Wrong, named, index, sooner, place_under, or_else, wrong_item, within_list, within_map, at_name, wrong_entry, missing, missing_in_case, is_literal, is_tagged, wrong_map, unless, wrong, wrong_fields, wrong_choice, wrong_cases, place_within}
 use Rattle.mig_laws.specs.Sides.{SumsApart, FieldsApart, ChoiceApart, CasesApart}
 use Rattle.mig_laws.proofs.Tests.{same_kind_is}
 use Rattle.mig_laws.proofs.Sides.{kind_told}
@@ -70,7 +70,7 @@ entry_none w A h (e ∷ es) = (
 
 pub missing_none : (fs : Fields) (es : Entries) → (missing fs es ≡ None) ↔ (has_musts fs es ≡ true)
 missing_none no_field es = (λ f. refl, λ f. refl)
-missing_none (field x p V fs) es = go (not (is_must p) || is_some (found x es)) (missing_none fs es)
+missing_none (field x p V fs) es = go (not (is_must p) || is_some (under x es)) (missing_none fs es)
   where
     go : (b : Bool) → (missing fs es ≡ None) ↔ (has_musts fs es ≡ true) → ((if b then missing fs es else Some (x, [])) ≡ None) ↔ ((b && has_musts fs es) ≡ true)
     go true e = e
@@ -95,7 +95,7 @@ sooner_none (Some a) (Some b) e = go (is_lt (by_bytes b.0 a.0)) e
     go true f = absurd (cc)
     go false f = absurd (cc)
 
-under_none : (a : Wrong) → under a ≡ None → a ≡ None
+under_none : (a : Wrong) → place_under a ≡ None → a ≡ None
 under_none None e = refl
 under_none (Some a) e = absurd (cc)
 
@@ -110,7 +110,7 @@ record_none fs (choice tag cs kept) es bad = (
   (λ e. let both = split_and (has_musts fs es) (has_case tag cs kept es) e.0 in let one = (case_none tag cs kept es).0 both.1 in rw (one.0, e.1, (missing_none fs es).1 both.0, one.1) refl),
 )
   where
-    to : (b : Bool) → is_tagged tag cs kept es ≡ b → (if b then under (sooner bad (sooner (missing fs es) (missing_in_case tag cs es))) else Some (named tag ∷ [])) ≡ None
+    to : (b : Bool) → is_tagged tag cs kept es ≡ b → (if b then place_under (sooner bad (sooner (missing fs es) (missing_in_case tag cs es))) else Some (named tag ∷ [])) ≡ None
         → ((has_musts fs es && has_case tag cs kept es) ≡ true) × (bad ≡ None)
     to true i e =
         let both = sooner_none bad (sooner (missing fs es) (missing_in_case tag cs es)) (under_none _ e) in

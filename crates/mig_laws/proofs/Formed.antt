@@ -3,13 +3,16 @@ use Rattle.std.proofs.Common.{◌≡◌, refl, sym, ap, ◌∙◌, ℕ, List, []
 use Rattle.std.specs.Prelude.{not, ◌&&◌, ◌||◌, unwrap_or, if◌then◌else◌}
 use Rattle.std.specs.List.{AllByRecursion, list_any}
 use Rattle.mig_model.specs.declared.form.Form.{Form}
-use Rattle.mig_model.specs.declared.form.Form.TheVariants as F
 use Rattle.mig_model.specs.declared.kind.Kind.{Kind}
 use Rattle.mig_model.specs.declared.kind.Kind.TheVariants as K
-use Rattle.mig_model.specs.Template.{Template, leaf, any, list, point, rec, sum, Fields, no_field, field, Choice, no_choice, choice, Cases, no_case, case, same_name, is_of_form, is_leaf, has_kind}
+use Rattle.mig_model.specs.Template.{Template, leaf, any, list, point, rec, sum, Fields, no_field, field, Choice, no_choice, choice, Cases, no_case, case, is_of_form, is_leaf, has_kind, kind_number}
+use Rattle.mig_model.specs.Names.{same_name}
 use Rattle.mig_model.specs.Family.{Family, find_type, body, any_inside, any_in_fields, any_in_choice, any_in_cases, kinds, is_wrong_leaf, is_point, has_point_side, sides_overlap, Flaw, twice_named, too_many, too_deep, wrong_kind, unknown_name, unguarded, sum_overlap, mixed_list, root_not_record, version_path, version_name_used, any_type, has_flaw, flaws, first_of, IsFormed}
 use Rattle.mig_laws.specs.Sides.{is_guarded, is_side, AreSides, SumsApart, FieldsApart, ChoiceApart, CasesApart}
-use Rattle.std.proofs.lemmas.Bool.{not-false}
+use Rattle.std.proofs.lemmas.Bool.{not-false, false_from_ne_true}
+use Rattle.std.proofs.lemmas.List.Folds.{list_any_at}
+use Rattle.mig_laws.proofs.Tests.{at_number}
+use Rattle.mig_laws.proofs.Parts.{shared_kinds}
 use Rattle.mig_model.proofs.Bools.{split_and, split_or, both_true}
 use Rattle.mig_model.proofs.SameNames.{same_kind_itself}
 
@@ -50,16 +53,13 @@ each_body p f e a n = each_type p f.types e a n
 
 -- guarded bodies
 guarded_inside : (V : Template) → is_point V ≡ false → any_inside has_point_side V ≡ false → is_guarded V ≡ true
-guarded_inside (leaf k) p e = refl
-guarded_inside any p e = refl
-guarded_inside (list V) p e = refl
 guarded_inside (point n) p e = absurd (true≢false p)
-guarded_inside (rec fs c r) p e = refl
 guarded_inside (sum V W) p e =
     let here = split_or (is_point V || is_point W) (any_inside has_point_side V || any_inside has_point_side W) e in
     let points = split_or (is_point V) (is_point W) here.0 in
     let inside = split_or (any_inside has_point_side V) (any_inside has_point_side W) here.1 in
     both_true (is_guarded V) (is_guarded W) (guarded_inside V points.0 inside.0) (guarded_inside W points.1 inside.1)
+guarded_inside _ p e = refl
 
 no_point : (f : Family) → IsFormed f → (n : List ℕ) → (is_point (body f n) || any_inside has_point_side (body f n)) ≡ false
 no_point f e n = each_body (λ V. is_point V || any_inside has_point_side V) f (no_flaw f e unguarded) refl n
@@ -68,46 +68,17 @@ pub body_guarded : (f : Family) → IsFormed f → (n : List ℕ) → is_guarded
 body_guarded f e n = let both = split_or (is_point (body f n)) (any_inside has_point_side (body f n)) (no_point f e n) in guarded_inside (body f n) both.0 both.1
 
 -- kinds
-no_kind : (q : Kind → Bool) (ks : List Kind) → list_any q ks ≡ false → AllByRecursion (λ k. q k ≡ false) ks
-no_kind q [] e = tt
-no_kind q (k ∷ ks) e = let both = split_or (q k) (list_any q ks) e in (both.0, no_kind q ks both.1)
-
 pub each_kind : (q : Kind → Bool) → list_any q kinds ≡ false → (k : Kind) → q k ≡ false
-each_kind q e K.Byte = (no_kind q kinds e).0
-each_kind q e K.Short = (no_kind q kinds e).1.0
-each_kind q e K.Int = (no_kind q kinds e).1.1.0
-each_kind q e K.Long = (no_kind q kinds e).1.1.1.0
-each_kind q e K.Float = (no_kind q kinds e).1.1.1.1.0
-each_kind q e K.Double = (no_kind q kinds e).1.1.1.1.1.0
-each_kind q e K.Text = (no_kind q kinds e).1.1.1.1.1.1.0
-each_kind q e K.Bytes = (no_kind q kinds e).1.1.1.1.1.1.1.0
-each_kind q e K.Ints = (no_kind q kinds e).1.1.1.1.1.1.1.1.0
-each_kind q e K.Longs = (no_kind q kinds e).1.1.1.1.1.1.1.1.1.0
-each_kind q e K.List = (no_kind q kinds e).1.1.1.1.1.1.1.1.1.1.0
-each_kind q e K.Map = (no_kind q kinds e).1.1.1.1.1.1.1.1.1.1.1.0
-each_kind q e K.Null = (no_kind q kinds e).1.1.1.1.1.1.1.1.1.1.1.1.0
-each_kind q e K.Bool = (no_kind q kinds e).1.1.1.1.1.1.1.1.1.1.1.1.1.0
-each_kind q e K.Whole = (no_kind q kinds e).1.1.1.1.1.1.1.1.1.1.1.1.1.1.0
-
-text_of_form : (form : Form) → is_of_form form K.Text ≡ true
-text_of_form F.Nbt = refl
-text_of_form F.Json = refl
-
-list_of_form : (form : Form) → is_of_form form K.List ≡ true
-list_of_form F.Nbt = refl
-list_of_form F.Json = refl
-
-map_of_form : (form : Form) → is_of_form form K.Map ≡ true
-map_of_form F.Nbt = refl
-map_of_form F.Json = refl
+each_kind q e k =
+    false_from_ne_true (q k) (λ h. true≢false (sym (list_any_at q kinds (kind_number k) K.Whole (at_number k).0 (ap q (at_number k).1 ∙ h)) ∙ e))
 
 -- a guarded template has a root kind of the form
 pub some_kind : (form : Form) (V : Template) → is_guarded V ≡ true → any_inside (is_wrong_leaf form) V ≡ false → (k : Kind) × (has_kind form V k ≡ true) × (is_of_form form k ≡ true)
 some_kind form (leaf k) g e = (k, same_kind_itself k, (split_and (is_leaf k) (is_of_form form k) (not-false (is_leaf k && is_of_form form k) e)).1)
-some_kind form any g e = (K.Text, text_of_form form, text_of_form form)
-some_kind form (list V) g e = (K.List, refl, list_of_form form)
+some_kind form any g e = (K.Text, (shared_kinds form).2, (shared_kinds form).2)
+some_kind form (list V) g e = (K.List, refl, (shared_kinds form).0)
 some_kind form (point n) g e = absurd (true≢false (sym g))
-some_kind form (rec fs c r) g e = (K.Map, refl, map_of_form form)
+some_kind form (rec fs c r) g e = (K.Map, refl, (shared_kinds form).1)
 some_kind form (sum V W) g e =
     let inside = split_or (any_inside (is_wrong_leaf form) V) (any_inside (is_wrong_leaf form) W) e in
     let one = some_kind form V (split_and (is_guarded V) (is_guarded W) g).0 inside.0 in
@@ -126,12 +97,10 @@ parts form a b s =
 
 -- any tree isn't a side, since it shares a kind with each template
 side : (form : Form) (V W : Template) → is_point V ≡ false → SumsApart form V → is_guarded W ≡ true → any_inside (is_wrong_leaf form) W ≡ false → ((k : Kind) → has_kind form V k ≡ true → has_kind form W k ≡ true → ⊥) → is_side V ≡ true
-side form (leaf k) W p a g e never = refl
 side form any W p a g e never = let one = some_kind form W g e in absurd (never one.0 one.2 one.1)
-side form (list V) W p a g e never = refl
 side form (point n) W p a g e never = absurd (true≢false p)
-side form (rec fs c r) W p a g e never = refl
 side form (sum V U) W p a g e never = both_true (is_side V) (is_side U) a.0.left a.0.right
+side form _ W p a g e never = refl
 
 second_false : (a b : Bool) → (a && b) ≡ false → a ≡ true → b ≡ false
 second_false true b e h = e
@@ -150,10 +119,7 @@ sides form V W s sV sW aV aW =
 
 mutual
   sums_apart : (form : Form) (V : Template) → Sound form (λ p. any_inside p V) → SumsApart form V
-  sums_apart form (leaf k) s = tt
-  sums_apart form any s = tt
   sums_apart form (list V) s = sums_apart form V (parts form (λ p. p (list V)) (λ p. any_inside p V) s).1
-  sums_apart form (point n) s = tt
   sums_apart form (rec fs c r) s =
       let inside = parts form (λ p. any_in_fields p fs) (λ p. any_in_choice p c) (parts form (λ p. p (rec fs c r)) (λ p. any_in_fields p fs || any_in_choice p c) s).1 in
       (fields_apart form fs inside.0, choice_apart form c inside.1)
@@ -163,6 +129,7 @@ mutual
       let left = sums_apart form V inside.0 in
       let right = sums_apart form W inside.1 in
       (sides form V W here.0 inside.0 inside.1 left right, left, right)
+  sums_apart form _ s = tt
 
   fields_apart : (form : Form) (fs : Fields) → Sound form (λ p. any_in_fields p fs) → FieldsApart form fs
   fields_apart form no_field s = tt

@@ -6,6 +6,7 @@ pub mod Sides
 pub mod Exact
 pub mod Formed
 pub mod Laws
+pub mod Named
 pub mod Reading
 pub mod Versions
 mod Examples

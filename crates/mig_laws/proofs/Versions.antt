@@ -1,18 +1,14 @@
--- Taking the version out of a tree, or putting one in, keeps the form.
+-- Taking the version out of a tree keeps the form.
 use Rattle.std.proofs.Common.{◌≡◌, refl, ℕ, List, [], ◌∷◌, Bool, true, false}
 use Rattle.std.specs.Prelude.{if◌then◌else◌}
-use Rattle.std.specs.Ordering.{match_ordering}
-use Rattle.std.specs.declared.cmp.Ordering.{Ordering}
-use Rattle.std.specs.declared.cmp.Ordering.TheVariants.{Less, Equal, Greater}
 use Rattle.mig_model.specs.declared.form.Form.{Form}
 use Rattle.mig_model.specs.Plain as plain
 use Rattle.mig_model.specs.Plain.{Plain, Pairs, no_pair, pair, pairs_of, entries, on_entries, each_entry}
-use Rattle.mig_model.specs.Kinds.{removed, put_in}
-use Rattle.mig_model.specs.Names.{by_bytes, with_pair, without}
-use Rattle.mig_model.specs.Template.{same_name}
+use Rattle.mig_model.specs.Kinds.{removed}
+use Rattle.mig_model.specs.Names.{without, same_name}
 use Rattle.mig_model.specs.Inhabits.{Entries, is_in_form, entries_in_form}
 use Rattle.mig_model.specs.Family.{last_name}
-use Rattle.mig_model.specs.Version.{on_spot, strip, put}
+use Rattle.mig_model.specs.Version.{on_spot, strip}
 use Rattle.mig_model.proofs.Bools.{split_and, both_true}
 
 module _ (form : Form) where
@@ -33,17 +29,6 @@ module _ (form : Form) where
       go true t r rest = r
       go false t r rest = both_true _ _ t rest
 
-  with_of_form : (x : List ℕ) (v : Plain) → is_in_form form v ≡ true → (es : Entries) → AreOfForm es → AreOfForm (with_pair x v es)
-  with_of_form x v of [] e = both_true _ _ of refl
-  with_of_form x v of (p ∷ es) e =
-      let both = split_and (is_in_form form p.1) (entries_in_form form (pairs_of es)) e in
-      go (by_bytes x p.0) both.0 both.1 (with_of_form x v of es both.1)
-    where
-      go : (o : Ordering) → is_in_form form p.1 ≡ true → AreOfForm es → AreOfForm (with_pair x v es) → AreOfForm (match_ordering o ((x, v) ∷ p ∷ es) ((p.0, v) ∷ es) (p ∷ with_pair x v es))
-      go Less t r rest = both_true _ _ of (both_true _ _ t r)
-      go Equal t r rest = both_true _ _ of r
-      go Greater t r rest = both_true _ _ t rest
-
   each_of_form : (g : List ℕ → Plain → Plain) → ((n : List ℕ) (t : Plain) → is_in_form form t ≡ true → is_in_form form (g n t) ≡ true) → (es : Entries) → AreOfForm es → AreOfForm (each_entry g es)
   each_of_form g h [] e = refl
   each_of_form g h (p ∷ es) e =
@@ -57,10 +42,6 @@ module _ (form : Form) where
   removed_of_form : (x : List ℕ) (t : Plain) → is_in_form form t ≡ true → is_in_form form (removed x t) ≡ true
   removed_of_form x (plain.map ps) e = without_of_form x (entries ps) (entries_of_form ps e)
   removed_of_form x t e = e
-
-  put_of_form : (x : List ℕ) (v : Plain) → is_in_form form v ≡ true → (t : Plain) → is_in_form form t ≡ true → is_in_form form (put_in x v t) ≡ true
-  put_of_form x v of (plain.map ps) e = with_of_form x v of (entries ps) (entries_of_form ps e)
-  put_of_form x v of t e = e
 
   spot_of_form : (f : Plain → Plain) → ((t : Plain) → is_in_form form t ≡ true → is_in_form form (f t) ≡ true) → (xs : List (List ℕ)) (t : Plain) → is_in_form form t ≡ true → is_in_form form (on_spot f xs t) ≡ true
   spot_of_form f h (x ∷ (y ∷ xs)) t e =
@@ -76,7 +57,3 @@ module _ (form : Form) where
   -- the tree without the version
   pub strip_of_form : (xs : List (List ℕ)) (t : Plain) → is_in_form form t ≡ true → is_in_form form (strip xs t) ≡ true
   strip_of_form xs t e = spot_of_form (removed (last_name xs)) (removed_of_form (last_name xs)) xs t e
-
-  -- the tree with this version
-  pub version_of_form : (xs : List (List ℕ)) (v : Plain) → is_in_form form v ≡ true → (t : Plain) → is_in_form form t ≡ true → is_in_form form (put xs v t) ≡ true
-  version_of_form xs v of t e = spot_of_form (put_in (last_name xs) v) (put_of_form (last_name xs) v of) xs t e

@@ -4,10 +4,9 @@ use Rattle.std.specs.Prelude.{is_some}
 use Rattle.std.specs.BTreeMap.{is_at}
 use Rattle.std.specs.Map.{keys_of, lookup}
 use Rattle.mig_model.specs.Fields.{is_field, find_field}
-use Rattle.mig_model.specs.Names.{by_bytes}
+use Rattle.mig_model.specs.Names.{by_bytes, is_among, under}
 use Rattle.mig_model.specs.Template as model
 use Rattle.mig_model.specs.Template.{fields_of}
-use Rattle.mig_template.specs.Parts.{is_among, found_field}
 use Rattle.mig_template.proofs.Found.{among_is_found}
 use Rattle.mig_template.proofs.Views.{field_list_of}
 
@@ -16,5 +15,5 @@ pub among_is_field : (n : List ℕ) (fs : List model.Field) → is_among (keys_o
 among_is_field n fs = sym (among_is_found n fs) ∙ ap (λ l. is_some (lookup (is_at (by_bytes n)) l)) (sym (field_list_of fs))
 
 -- a field is found among fields as it is found by the definition
-pub found_is_field : (n : List ℕ) (fs : List model.Field) → found_field n fs ≡ find_field n (fields_of fs)
+pub found_is_field : (n : List ℕ) (fs : List model.Field) → under n fs ≡ find_field n (fields_of fs)
 found_is_field n fs = ap (λ l. lookup (is_at (by_bytes n)) l) (sym (field_list_of fs))

@@ -4,7 +4,7 @@ use Rattle.mig_model.specs.Family.{Family, Flaw, has_flaw, first_of, first_flaw}
 use Rattle.mig_model.specs.Family as model
 use Rattle.mig_schema.specs.declared.fault.SchemaFault.{SchemaFault}
 use Rattle.mig_schema.specs.declared.fault.SchemaFault.TheVariants as S
-use Rattle.mig_schema.specs.Fault.{IsFault, IsFound, first_flaws, later_flaws}
+use Rattle.mig_schema.specs.Fault.{IsFamilyFault, IsFound, first_flaws, later_flaws}
 
 module _ (f : Family) where
   skipped : (w : Flaw) (ws : List Flaw) → has_flaw w f ≡ false → first_of (w ∷ ws) f ≡ first_of ws f
@@ -36,30 +36,11 @@ module _ (f : Family) where
   later_is once h = skipped model.twice_named (first_flaws ++ later_flaws) once ∙ none_first first_flaws later_flaws h
 
   pub found_first : (e : SchemaFault) → has_flaw model.twice_named f ≡ false → IsFound (Some e) (first_of first_flaws f) → IsFound (Some e) (first_flaw f)
-  found_first S.TwiceNamed once h = first_is model.twice_named once h
-  found_first S.TooMany once h = first_is model.too_many once h
-  found_first S.TooDeep once h = first_is model.too_deep once h
-  found_first S.WrongKind once h = first_is model.wrong_kind once h
-  found_first S.UnknownName once h = first_is model.unknown_name once h
-  found_first S.Unguarded once h = first_is model.unguarded once h
-  found_first S.SumOverlap once h = first_is model.sum_overlap once h
-  found_first S.MixedList once h = first_is model.mixed_list once h
-  found_first S.RootNotRecord once h = first_is model.root_not_record once h
-  found_first S.VersionPath once h = first_is model.version_path once h
-  found_first S.VersionNameUsed once h = first_is model.version_name_used once h
   found_first S.Memory once h = absurd h
+  found_first S.TwiceNamed once h = first_is _ once h
+  found_first _ once h = first_is _ once h
 
 -- what was found is the fault
-pub found_is_fault : (e : SchemaFault) (first : Option Flaw) → IsFound (Some e) first → IsFault e first
-found_is_fault S.TwiceNamed first h = h
-found_is_fault S.TooMany first h = h
-found_is_fault S.TooDeep first h = h
-found_is_fault S.WrongKind first h = h
-found_is_fault S.UnknownName first h = h
-found_is_fault S.Unguarded first h = h
-found_is_fault S.SumOverlap first h = h
-found_is_fault S.MixedList first h = h
-found_is_fault S.RootNotRecord first h = h
-found_is_fault S.VersionPath first h = h
-found_is_fault S.VersionNameUsed first h = h
+pub found_is_fault : (e : SchemaFault) (first : Option Flaw) → IsFound (Some e) first → IsFamilyFault e first
 found_is_fault S.Memory first h = absurd h
+found_is_fault _ first h = h

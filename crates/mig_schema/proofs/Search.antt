@@ -8,14 +8,14 @@ use Rattle.mig_template.specs.View.{template_of, field_of, case_of}
 use Rattle.mig_template.specs.declared.fields.Field.{Field}
 use Rattle.mig_template.specs.declared.record.Case.{Case}
 use Rattle.mig_schema.specs.Reach.{points, field_points, case_points, places}
-use Rattle.mig_schema.specs.Types.{Named, place_of}
+use Rattle.mig_schema.specs.Types.{Named, type_place}
 
 pub insert_all-append : (ks xs ys : List ℕ) → insert_all nat_eq ks (xs ++ ys) ≡ insert_all nat_eq (insert_all nat_eq ks xs) ys
 insert_all-append ks [] ys = refl
 insert_all-append ks (x ∷ xs) ys = insert_all-append (insert_key nat_eq ks x) xs ys
 
 pub places-append : (ts : List Named) (ms ns : List (List ℕ)) → places ts (ms ++ ns) ≡ places ts ms ++ places ts ns
-places-append ts ms ns = filter_map-append (place_of ts) ms ns
+places-append ts ms ns = filter_map-append (type_place ts) ms ns
 
 -- places that are inserted one after the other
 pub both_inserted : (ts : List Named) (ks js is : List ℕ) (ms ns : List (List ℕ)) → js ≡ insert_all nat_eq ks (places ts ms) → is ≡ insert_all nat_eq js (places ts ns) → is ≡ insert_all nat_eq ks (places ts (ms ++ ns))

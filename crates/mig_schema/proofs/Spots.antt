@@ -1,7 +1,6 @@
 -- A change under one name of a map, and what a path of names leads to.
-use Rattle.std.proofs.Common.{◌≡◌, ◌<◌, ℕ, length, arith, List, [], ◌∷◌, Bool, true, false, Option, Some, None, Ok, Err, refl, sym, ap, subst, ◌∙◌}
-use Rattle.std.specs.declared.result.Result.{Result}
-use Rattle.std.specs.Prelude.{◌==◌, IsSome, OnOk, OnErr, is_some, option_and_then, if◌then◌else◌}
+use Rattle.std.proofs.Common.{◌≡◌, ◌<◌, ℕ, length, arith, List, [], ◌∷◌, Bool, true, false, Option, Some, None, refl, sym, ap, subst, ◌∙◌}
+use Rattle.std.specs.Prelude.{◌==◌, IsSome, is_some, option_and_then, if◌then◌else◌}
 use Rattle.std.specs.declared.cmp.Ordering.{Ordering}
 use Rattle.std.specs.declared.cmp.Ordering.TheVariants.{Less, Equal, Greater}
 use Rattle.std.specs.Map.{keys_of}
@@ -17,8 +16,7 @@ use Rattle.mig_model.specs.Plain.{Plain, Pairs, no_pair, pair, pairs_of, entries
 use Rattle.mig_model.specs.Family.{last_name}
 use Rattle.mig_model.specs.Kinds.{IsMap, get_in, removed, entries_of_pairs}
 use Rattle.mig_model.specs.Version.{map_entries, spot, on_spot, version_in, strip}
-use Rattle.mig_model.specs.Names.{by_bytes, IsNamed, with_pair, without, found}
-use Rattle.mig_model.specs.Template.{same_name}
+use Rattle.mig_model.specs.Names.{by_bytes, without, Ascends, put, under, same_name}
 use Rattle.mig_model.specs.Inhabits.{Entries}
 
 abbrev at_name : List ℕ → (Plain → Plain) → List ℕ → Plain → Plain
@@ -26,45 +24,45 @@ at_name x g n t = if same_name x n then g t else t
 
 -- ---- one pair of a map
 
-pub with_again : (x : List ℕ) (a b : Plain) (es : Entries) → with_pair x a (with_pair x b es) ≡ with_pair x a es
+pub with_again : (x : List ℕ) (a b : Plain) (es : Entries) → put x a (put x b es) ≡ put x a es
 with_again x a b [] = rw (tied_itself nat_list_cmp_total x) refl
 with_again x a b (e ∷ es) = by (by_bytes x e.0) refl (with_again x a b es)
   where
-    by : (r : Ordering) → by_bytes x e.0 ≡ r → with_pair x a (with_pair x b es) ≡ with_pair x a es → with_pair x a (with_pair x b (e ∷ es)) ≡ with_pair x a (e ∷ es)
+    by : (r : Ordering) → by_bytes x e.0 ≡ r → put x a (put x b es) ≡ put x a es → put x a (put x b (e ∷ es)) ≡ put x a (e ∷ es)
     by Less q rest = rw q (rw (tied_itself nat_list_cmp_total x) refl)
     by Equal q rest = rw q (rw q refl)
     by Greater q rest = rw q (rw q (ap (λ l. e ∷ l) rest))
 
-pub found_with : (x : List ℕ) (a : Plain) (es : Entries) → found x (with_pair x a es) ≡ Some a
+pub found_with : (x : List ℕ) (a : Plain) (es : Entries) → under x (put x a es) ≡ Some a
 found_with x a [] = rw (tied_itself nat_list_cmp_total x) refl
 found_with x a (e ∷ es) = by (by_bytes x e.0) refl (found_with x a es)
   where
-    by : (r : Ordering) → by_bytes x e.0 ≡ r → found x (with_pair x a es) ≡ Some a → found x (with_pair x a (e ∷ es)) ≡ Some a
+    by : (r : Ordering) → by_bytes x e.0 ≡ r → under x (put x a es) ≡ Some a → under x (put x a (e ∷ es)) ≡ Some a
     by Less q rest = rw q (rw (tied_itself nat_list_cmp_total x) refl)
     by Equal q rest = rw q (rw q refl)
     by Greater q rest = rw q (rw q rest)
 
 -- where the name isn't there, nothing changes
-pub change_none : (x : List ℕ) (g : Plain → Plain) (es : Entries) → found x es ≡ None → each_entry (at_name x g) es ≡ es
+pub change_none : (x : List ℕ) (g : Plain → Plain) (es : Entries) → under x es ≡ None → each_entry (at_name x g) es ≡ es
 change_none x g [] h = refl
 change_none x g (e ∷ es) h = by (by_bytes x e.0) refl h (change_none x g es)
   where
-    by : (r : Ordering) → by_bytes x e.0 ≡ r → found x (e ∷ es) ≡ None → (found x es ≡ None → each_entry (at_name x g) es ≡ es) → each_entry (at_name x g) (e ∷ es) ≡ e ∷ es
+    by : (r : Ordering) → by_bytes x e.0 ≡ r → under x (e ∷ es) ≡ None → (under x es ≡ None → each_entry (at_name x g) es ≡ es) → each_entry (at_name x g) (e ∷ es) ≡ e ∷ es
     by Less q k rest = rw q (ap (λ l. e ∷ l) (rest (rw q at k)))
     by Equal q k rest = absurd (let never : Some e.1 ≡ None = rw q at k in cc)
     by Greater q k rest = rw q (ap (λ l. e ∷ l) (rest (rw q at k)))
 
 -- a name stands once among those that ascend
-none_behind : (x k : List ℕ) → by_bytes x k ≡ Equal → (es : Entries) → AllByRecursion (λ y. by_bytes k y ≡ Less) (keys_of es) → found x es ≡ None
+none_behind : (x k : List ℕ) → by_bytes x k ≡ Equal → (es : Entries) → AllByRecursion (λ y. by_bytes k y ≡ Less) (keys_of es) → under x es ≡ None
 none_behind x k q [] h = refl
 none_behind x k q (e ∷ es) h = rw (nat_list_cmp_total.congr x k e.0 q ∙ h.0) (none_behind x k q es h.1)
 
 -- where it is there, its tree changes
-pub change_one : (x : List ℕ) (g : Plain → Plain) (es : Entries) (u : Plain) → IsNamed es → found x es ≡ Some u → each_entry (at_name x g) es ≡ with_pair x (g u) es
+pub change_one : (x : List ℕ) (g : Plain → Plain) (es : Entries) (u : Plain) → Ascends es → under x es ≡ Some u → each_entry (at_name x g) es ≡ put x (g u) es
 change_one x g [] u s h = absurd cc
 change_one x g (e ∷ es) u s h = by (by_bytes x e.0) refl h (change_one x g es u (sorted_tail by_bytes e.0 (keys_of es) s))
   where
-    by : (r : Ordering) → by_bytes x e.0 ≡ r → found x (e ∷ es) ≡ Some u → (found x es ≡ Some u → each_entry (at_name x g) es ≡ with_pair x (g u) es) → each_entry (at_name x g) (e ∷ es) ≡ with_pair x (g u) (e ∷ es)
+    by : (r : Ordering) → by_bytes x e.0 ≡ r → under x (e ∷ es) ≡ Some u → (under x es ≡ Some u → each_entry (at_name x g) es ≡ put x (g u) es) → each_entry (at_name x g) (e ∷ es) ≡ put x (g u) (e ∷ es)
     by Less q k rest = let none = lookup-none (is_at (by_bytes x)) (e ∷ es) (none_below_head nat_list_cmp_total x e es s q) in absurd (let never : None ≡ Some u = sym none ∙ k in cc)
     by Equal q k rest =
         let is : Some e.1 ≡ Some u = rw q at k in
@@ -83,7 +81,7 @@ same_again x (e ∷ es) = by (same_name x e.0) (same_again x es)
     by false rest = ap (λ l. e ∷ l) rest
 
 -- a tree that is put where it stands changes nothing
-pub with_same : (x : List ℕ) (es : Entries) (u : Plain) → IsNamed es → found x es ≡ Some u → with_pair x u es ≡ es
+pub with_same : (x : List ℕ) (es : Entries) (u : Plain) → Ascends es → under x es ≡ Some u → put x u es ≡ es
 with_same x es u s h = sym (change_one x (λ t. t) es u s h) ∙ same_again x es
 
 -- ---- a path of names, in a map whose pairs are es
@@ -102,46 +100,46 @@ version_here x _ = refl
 -- more names: what they lead to in the tree under the first
 pub version_inside : (x : List ℕ) (xs : List (List ℕ)) (t u : Plain) → 0 < length xs → get_in x t ≡ Some u → version_in (x ∷ xs) t ≡ version_in xs u
 version_inside x [] t u l h = absurd (omega arith)
-version_inside x (y ∷ xs) t u l h = ap (λ o. option_and_then (found (last_name (y ∷ xs))) o) (spot_goes x y xs t (Some u) h)
+version_inside x (y ∷ xs) t u l h = ap (λ o. option_and_then (under (last_name (y ∷ xs))) o) (spot_goes x y xs t (Some u) h)
 
 pub version_absent : (x : List ℕ) (xs : List (List ℕ)) (t : Plain) → get_in x t ≡ None → version_in (x ∷ xs) t ≡ None
 version_absent x [] t h = version_here x t ∙ h
-version_absent x (y ∷ xs) t h = ap (λ o. option_and_then (found (last_name (y ∷ xs))) o) (spot_goes x y xs t None h)
+version_absent x (y ∷ xs) t h = ap (λ o. option_and_then (under (last_name (y ∷ xs))) o) (spot_goes x y xs t None h)
 
 -- what is done to the spot behind a name is done to the tree under that name
-pub spot_inside : (f : Plain → Plain) (x : List ℕ) (xs : List (List ℕ)) (es : Entries) (u : Plain) → IsNamed es → 0 < length xs → found x es ≡ Some u → at (with_pair x (on_spot f xs u) es) ≡ on_spot f (x ∷ xs) (at es)
+pub spot_inside : (f : Plain → Plain) (x : List ℕ) (xs : List (List ℕ)) (es : Entries) (u : Plain) → Ascends es → 0 < length xs → under x es ≡ Some u → at (put x (on_spot f xs u) es) ≡ on_spot f (x ∷ xs) (at es)
 spot_inside f x [] es u s l h = absurd (omega arith)
 spot_inside f x (y ∷ xs) es u s l h = ap at (sym (change_one x (on_spot f (y ∷ xs)) es u s h)) ∙ ap (λ l. at (each_entry (at_name x (on_spot f (y ∷ xs))) l)) (sym (entries_of_pairs es))
 
-pub spot_absent : (f : Plain → Plain) (x : List ℕ) (xs : List (List ℕ)) (es : Entries) → 0 < length xs → found x es ≡ None → at es ≡ on_spot f (x ∷ xs) (at es)
+pub spot_absent : (f : Plain → Plain) (x : List ℕ) (xs : List (List ℕ)) (es : Entries) → 0 < length xs → under x es ≡ None → at es ≡ on_spot f (x ∷ xs) (at es)
 spot_absent f x [] es l h = absurd (omega arith)
 spot_absent f x (y ∷ xs) es l h = ap at (sym (change_none x (on_spot f (y ∷ xs)) es h)) ∙ ap (λ l. at (each_entry (at_name x (on_spot f (y ∷ xs))) l)) (sym (entries_of_pairs es))
 
-pub taken : (x : List ℕ) (u v : Plain) (es ds : Entries) → found x es ≡ Some u → ds ≡ (if is_some (found x es) then with_pair x v es else es) → ds ≡ with_pair x v es
-taken x u v es ds h d = d ∙ ap (λ o. if is_some o then with_pair x v es else es) h
+pub taken : (x : List ℕ) (u v : Plain) (es ds : Entries) → under x es ≡ Some u → ds ≡ (if is_some (under x es) then put x v es else es) → ds ≡ put x v es
+taken x u v es ds h d = d ∙ ap (λ o. if is_some o then put x v es else es) h
 
 -- a map from which a tree was taken, and into which it is put again
-pub put_again : (x : List ℕ) (u v w : Plain) (es ds bs : Entries) → found x es ≡ Some u → ds ≡ (if is_some (found x es) then with_pair x v es else es) → bs ≡ with_pair x w ds → bs ≡ with_pair x w es
-put_again x u v w es ds bs h d b = b ∙ ap (with_pair x w) (taken x u v es ds h d) ∙ with_again x w v es
+pub put_again : (x : List ℕ) (u v w : Plain) (es ds bs : Entries) → under x es ≡ Some u → ds ≡ (if is_some (under x es) then put x v es else es) → bs ≡ put x w ds → bs ≡ put x w es
+put_again x u v w es ds bs h d b = b ∙ ap (put x w) (taken x u v es ds h d) ∙ with_again x w v es
 
-pub still_there : (x : List ℕ) (u v : Plain) (es ds : Entries) → found x es ≡ Some u → ds ≡ (if is_some (found x es) then with_pair x v es else es) → is_some (found x ds) ≡ true
-still_there x u v es ds h d = ap (λ l. is_some (found x l)) (taken x u v es ds h d) ∙ ap is_some (found_with x v es)
+pub still_there : (x : List ℕ) (u v : Plain) (es ds : Entries) → under x es ≡ Some u → ds ≡ (if is_some (under x es) then put x v es else es) → is_some (under x ds) ≡ true
+still_there x u v es ds h d = ap (λ l. is_some (under x l)) (taken x u v es ds h d) ∙ ap is_some (found_with x v es)
 
-pub nothing_taken : (x : List ℕ) (v : Plain) (es ds : Entries) → found x es ≡ None → ds ≡ (if is_some (found x es) then with_pair x v es else es) → ds ≡ es
-nothing_taken x v es ds h d = d ∙ ap (λ o. if is_some o then with_pair x v es else es) h
+pub nothing_taken : (x : List ℕ) (v : Plain) (es ds : Entries) → under x es ≡ None → ds ≡ (if is_some (under x es) then put x v es else es) → ds ≡ es
+nothing_taken x v es ds h d = d ∙ ap (λ o. if is_some o then put x v es else es) h
 
 -- ---- the steps of a walk along a path, whose names are x and the rest
 module _ (names : List (List ℕ)) (x : List ℕ) (rest : List (List ℕ)) (t : Plain) (es : Entries) (path : names ≡ x ∷ rest) (tree : t ≡ at es) where
-  get_is : get_in x t ≡ found x es
-  get_is = ap (get_in x) tree ∙ ap (found x) (entries_of_pairs es)
+  get_is : get_in x t ≡ under x es
+  get_is = ap (get_in x) tree ∙ ap (under x) (entries_of_pairs es)
 
-  pub version_one : (o : Option Plain) → rest ≡ [] → o ≡ found x es → o ≡ version_in names t
+  pub version_one : (o : Option Plain) → rest ≡ [] → o ≡ under x es → o ≡ version_in names t
   version_one o last h = h ∙ sym get_is ∙ sym (version_here x t) ∙ ap (λ xs. version_in (x ∷ xs) t) (sym last) ∙ ap (λ xs. version_in xs t) (sym path)
 
-  pub version_none : found x es ≡ None → None ≡ version_in names t
+  pub version_none : under x es ≡ None → None ≡ version_in names t
   version_none h = sym (ap (λ xs. version_in xs t) path ∙ version_absent x rest t (get_is ∙ h))
 
-  pub version_more : (o : Option Plain) (u : Plain) → 0 < length rest → found x es ≡ Some u → o ≡ version_in rest u → o ≡ version_in names t
+  pub version_more : (o : Option Plain) (u : Plain) → 0 < length rest → under x es ≡ Some u → o ≡ version_in rest u → o ≡ version_in names t
   version_more o u l h is = is ∙ sym (version_inside x rest t u l (get_is ∙ h)) ∙ ap (λ xs. version_in xs t) (sym path)
 
   pub strip_one : rest ≡ [] → at (without x es) ≡ strip names t
@@ -150,22 +148,22 @@ module _ (names : List (List ℕ)) (x : List ℕ) (rest : List (List ℕ)) (t : 
       ∙ ap (removed x) (sym tree)
       ∙ ap (λ xs. strip (x ∷ xs) t) (sym last) ∙ ap (λ xs. strip xs t) (sym path)
 
-  pub spot_none : (f : Plain → Plain) → 0 < length rest → found x es ≡ None → at es ≡ on_spot f names t
+  pub spot_none : (f : Plain → Plain) → 0 < length rest → under x es ≡ None → at es ≡ on_spot f names t
   spot_none f l h = spot_absent f x rest es l h ∙ ap (on_spot f (x ∷ rest)) (sym tree) ∙ ap (λ xs. on_spot f xs t) (sym path)
 
-  pub spot_more : (f : Plain → Plain) (u w : Plain) → IsNamed es → 0 < length rest → found x es ≡ Some u → w ≡ on_spot f rest u → at (with_pair x w es) ≡ on_spot f names t
+  pub spot_more : (f : Plain → Plain) (u w : Plain) → Ascends es → 0 < length rest → under x es ≡ Some u → w ≡ on_spot f rest u → at (put x w es) ≡ on_spot f names t
   spot_more f u w s l h is =
-      ap (λ v. at (with_pair x v es)) is ∙ spot_inside f x rest es u s l h ∙ ap (on_spot f (x ∷ rest)) (sym tree) ∙ ap (λ xs. on_spot f xs t) (sym path)
+      ap (λ v. at (put x v es)) is ∙ spot_inside f x rest es u s l h ∙ ap (on_spot f (x ∷ rest)) (sym tree) ∙ ap (λ xs. on_spot f xs t) (sym path)
 
   -- where there is a spot, the walk leads to it
-  pub spot_found : 0 < length rest → IsSome (spot names t) → found x es ≡ None → ⊥
+  pub spot_found : 0 < length rest → IsSome (spot names t) → under x es ≡ None → ⊥
   spot_found l some h = never rest l (subst (λ xs. IsSome (spot xs t)) path some)
     where
       never : (xs : List (List ℕ)) → 0 < length xs → IsSome (spot (x ∷ xs) t) → ⊥
       never [] l some = absurd (omega arith)
       never (y ∷ xs) l some = let none : false ≡ true = ap is_some (sym (spot_goes x y xs t None (get_is ∙ h))) ∙ some in cc
 
-  pub spot_behind : (u : Plain) → 0 < length rest → IsSome (spot names t) → found x es ≡ Some u → IsSome (spot rest u)
+  pub spot_behind : (u : Plain) → 0 < length rest → IsSome (spot names t) → under x es ≡ Some u → IsSome (spot rest u)
   spot_behind u l some h = behind rest l (subst (λ xs. IsSome (spot xs t)) path some)
     where
       behind : (xs : List (List ℕ)) → 0 < length xs → IsSome (spot (x ∷ xs) t) → IsSome (spot xs u)
@@ -179,10 +177,10 @@ module _ (names : List (List ℕ)) (x : List ℕ) (rest : List (List ℕ)) (t : 
       behind [] l = absurd (omega arith)
       behind (y ∷ xs) l = refl
 
-  pub strip_none : 0 < length rest → found x es ≡ None → at es ≡ strip names t
+  pub strip_none : 0 < length rest → under x es ≡ None → at es ≡ strip names t
   strip_none l h = spot_none (removed (last_name names)) l h
 
-  pub strip_more : (u w : Plain) → IsNamed es → 0 < length rest → found x es ≡ Some u → w ≡ strip rest u → at (with_pair x w es) ≡ strip names t
+  pub strip_more : (u w : Plain) → Ascends es → 0 < length rest → under x es ≡ Some u → w ≡ strip rest u → at (put x w es) ≡ strip names t
   strip_more u w s l h is = spot_more (removed (last_name names)) u w s l h (is ∙ ap (λ n. on_spot (removed n) rest u) (last_is l))
 
 pub no_rest : {A : Type 0} (xs : List A) (b : Bool) → b ≡ (length xs == 0) → b ≡ true → xs ≡ []
@@ -204,14 +202,6 @@ map_at_last names x rest t path last some =
 
 pub done : (f : Plain → Plain) (names : List (List ℕ)) (x : List ℕ) (rest : List (List ℕ)) (t : Plain) → names ≡ x ∷ rest → rest ≡ [] → f t ≡ on_spot f names t
 done f names x rest t path last = ap (λ xs. on_spot f (x ∷ xs) t) (sym last) ∙ ap (λ xs. on_spot f xs t) (sym path)
-
-pub on_ok : {A E P Q : Type 0} (r : Result A E) → (P → Q) → OnOk r P → OnOk r Q
-on_ok (Ok a) f h = f h
-on_ok (Err e) f h = tt
-
-pub on_err : {A E P Q : Type 0} (r : Result A E) → (P → Q) → OnErr r P → OnErr r Q
-on_err (Ok a) f h = tt
-on_err (Err e) f h = f h
 
 pub some_if_not_none : {A : Type 0} (o : Option A) → (o ≡ None → ⊥) → IsSome o
 some_if_not_none None h = absurd (h refl)

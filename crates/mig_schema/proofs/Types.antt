@@ -1,21 +1,25 @@
 -- Named types that stand in an indexed map.
-use Rattle.std.proofs.Common.{◌≡◌, ℕ, zero, suc, ◌+◌, ◌<◌, ◌||◌, get_or, take, drop, List, [], ◌∷◌, ◌++◌, Bool, true, false, cond, map, nat_eq, length, position, slice_get, Option, Some, None, option_map, refl, sym, ap, subst, ◌∙◌}
+use Rattle.std.proofs.Common.{◌≡◌, ℕ, ◌+◌, ◌<◌, ◌||◌, get_or, take, drop, List, [], ◌∷◌, ◌++◌, Bool, true, false, cond, map, nat_eq, length, position, slice_get, Option, Some, None, option_map, refl, sym, ap, subst, ◌∙◌}
 use Rattle.std.specs.Prelude.{is_some, not, option_copied}
 use Rattle.std.specs.Borrow.{Bor}
 use Rattle.std.specs.Cmp.{IsEquivalence}
 use Rattle.std.specs.Cmp.Lexicographic.{pointwise, texts_ties, bytes_decides, nat_list_eq_equiv}
 use Rattle.std.specs.List.{IsDistinct, list_any}
 use Rattle.std.specs.Map.{keys_of, values_of, lookup}
-use Rattle.std.proofs.lemmas.List.{take-append-drop, drop_more}
+use Rattle.std.proofs.lemmas.List.{take-append-drop, map-append}
+use Rattle.std.proofs.lemmas.Simd.{map-map}
+use Rattle.std.proofs.lemmas.Option.{slice_get-map}
 use Rattle.std.proofs.lemmas.List.Folds.{list_any-append}
 use Rattle.std.proofs.lemmas.Map.Made.{is_some-lookup}
-use Rattle.mig_model.specs.Family.{find_type, has_twice}
+use Rattle.mig_model.specs.Family.{find_type}
+use Rattle.mig_model.specs.Names.{has_twice, same_name}
 use Rattle.mig_model.specs.Template as model
-use Rattle.mig_model.specs.Template.{same_name}
+use Rattle.mig_model.proofs.Entries.{keys_append}
+use Rattle.mig_tree.proofs.Places.{drop_here}
 use Rattle.mig_template.specs.declared.template.Template.{Template}
 use Rattle.mig_template.specs.View.{template_of}
 use Rattle.mig_template.proofs.Names.{once_if_apart}
-use Rattle.mig_schema.specs.Types.{Named, named_of, named_all, place_of}
+use Rattle.mig_schema.specs.Types.{Named, named_of, named_all, type_place}
 use Rattle.mig_model.proofs.Bools.{first_false, second_false}
 
 -- two names are equal by the `==` of names exactly where they have the same bytes
@@ -26,22 +30,16 @@ pub same_name_laws : IsEquivalence same_name
 same_name_laws = subst IsEquivalence equal_is_same nat_list_eq_equiv
 
 pub names_kept : (ts : List (List ℕ × Template)) → keys_of (named_all ts) ≡ keys_of ts
-names_kept [] = refl
-names_kept (t ∷ ts) = ap (λ ns. t.0 ∷ ns) (names_kept ts)
+names_kept ts = map-map (λ (t : Named). t.0) named_of ts
 
 pub bodies_kept : (ts : List (List ℕ × Template)) → map template_of (values_of ts) ≡ values_of (named_all ts)
-bodies_kept [] = refl
-bodies_kept (t ∷ ts) = ap (λ Vs. template_of t.1 ∷ Vs) (bodies_kept ts)
+bodies_kept ts = map-map template_of (λ (t : List ℕ × Template). t.1) ts ∙ sym (map-map (λ (t : Named). t.1) named_of ts)
 
 pub name_at_is : (ts : List (List ℕ × Template)) (k : ℕ) → option_map (λ (t : List ℕ × Template). t.0) (slice_get ts k) ≡ slice_get (keys_of (named_all ts)) k
-name_at_is [] k = refl
-name_at_is (t ∷ ts) zero = refl
-name_at_is (t ∷ ts) (suc k) = name_at_is ts k
+name_at_is ts k = sym (slice_get-map (λ (t : List ℕ × Template). t.0) ts k) ∙ ap (λ ns. slice_get ns k) (sym (names_kept ts))
 
 pub body_at_is : (ts : List (List ℕ × Template)) (k : ℕ) → slice_get (values_of (named_all ts)) k ≡ option_map template_of (slice_get (values_of ts) k)
-body_at_is [] k = refl
-body_at_is (t ∷ ts) zero = refl
-body_at_is (t ∷ ts) (suc k) = body_at_is ts k
+body_at_is ts k = ap (λ Vs. slice_get Vs k) (sym (bodies_kept ts)) ∙ slice_get-map template_of (values_of ts) k
 
 -- ---- look-ups
 
@@ -63,7 +61,7 @@ found_by test n e (t ∷ ts) = by (test t.0) (e t.0) (found_by test n e ts)
 pub found_is : (n : List ℕ) (ts : List (List ℕ × Template)) → option_map template_of (lookup (pointwise nat_eq n) ts) ≡ find_type n (named_all ts)
 found_is n ts = found_by (pointwise nat_eq n) n (texts_ties n) ts
 
-pub place_is : (n : List ℕ) (ts : List (List ℕ × Template)) → position (pointwise nat_eq n) (keys_of ts) ≡ place_of (named_all ts) n
+pub place_is : (n : List ℕ) (ts : List (List ℕ × Template)) → position (pointwise nat_eq n) (keys_of ts) ≡ type_place (named_all ts) n
 place_is n ts = λ i. position (equal_is_same i n) (sym (names_kept ts) i)
 
 -- a name is found exactly where it is among the names
@@ -90,18 +88,9 @@ apart_before (k ∷ ks) n ms h =
     let rest : list_any (same_name n) ks ≡ false = apart_before ks n ms (second_false (list_any (same_name k) (ks ++ n ∷ ms)) (has_twice (ks ++ n ∷ ms)) h) in
     λ i. here i || rest i
 
--- the names of types, with one of them in the middle
-names_split : (ts : List Named) (t : Named) (us : List Named) → keys_of (ts ++ t ∷ us) ≡ keys_of ts ++ t.0 ∷ keys_of us
-names_split [] t us = refl
-names_split (s ∷ ts) t us = ap (λ ns. s.0 ∷ ns) (names_split ts t us)
-
-named_split : (ts : List (List ℕ × Template)) (t : List ℕ × Template) (us : List (List ℕ × Template)) → named_all (ts ++ t ∷ us) ≡ named_all ts ++ named_of t ∷ named_all us
-named_split [] t us = refl
-named_split (s ∷ ts) t us = ap (λ ns. named_of s ∷ ns) (named_split ts t us)
-
 apart_in_middle : (ts : List (List ℕ × Template)) (t : Named) (us : List Named) → has_twice (keys_of (named_all ts ++ t ∷ us)) ≡ false → list_any (same_name t.0) (keys_of ts) ≡ false
 apart_in_middle ts t us h =
-    ap (list_any (same_name t.0)) (sym (names_kept ts)) ∙ apart_before (keys_of (named_all ts)) t.0 (keys_of us) (sym (ap has_twice (names_split (named_all ts) t us)) ∙ h)
+    ap (list_any (same_name t.0)) (sym (names_kept ts)) ∙ apart_before (keys_of (named_all ts)) t.0 (keys_of us) (sym (ap has_twice (keys_append (named_all ts) (t ∷ us))) ∙ h)
 
 among_is_there : (n : List ℕ) (ts : List (List ℕ × Template)) → is_some (lookup (pointwise nat_eq n) ts) ≡ list_any (same_name n) (keys_of ts)
 among_is_there n ts = is_some-lookup (pointwise nat_eq n) ts ∙ ap (λ (e : List ℕ → List ℕ → Bool). list_any (e n) (keys_of ts)) equal_is_same
@@ -120,12 +109,12 @@ pub twice_at : (all : List (List ℕ × Template)) (ts : List (List ℕ × Templ
 twice_at all ts i t l is before there = by (has_twice (keys_of (named_all all))) refl
   where
     split : all ≡ ts ++ t ∷ drop (i + 1) all
-    split = sym (take-append-drop i all) ∙ (λ j. sym before j ++ (drop_more all i t l ∙ ap (λ u. u ∷ drop (i + 1) all) (sym is)) j)
+    split = sym (take-append-drop i all) ∙ (λ j. sym before j ++ drop_here all i t l is j)
 
     by : (b : Bool) → has_twice (keys_of (named_all all)) ≡ b → has_twice (keys_of (named_all all)) ≡ true
     by true e = e
     by false e =
-        absurd (there (new_in_middle ts (named_of t) (named_all (drop (i + 1) all)) (sym (ap (λ ts. has_twice (keys_of ts)) (ap named_all split ∙ named_split ts t (drop (i + 1) all))) ∙ e)))
+        absurd (there (new_in_middle ts (named_of t) (named_all (drop (i + 1) all)) (sym (ap (λ ts. has_twice (keys_of ts)) (ap named_all split ∙ map-append named_of ts (t ∷ drop (i + 1) all))) ∙ e)))
 
 -- one more type in the map
 pub one_more : (ts : List (List ℕ × Template)) (t : Named) (s : List ℕ × Template) (us : List Named) → named_of s ≡ t → named_all (ts ++ s ∷ []) ++ us ≡ named_all ts ++ t ∷ us

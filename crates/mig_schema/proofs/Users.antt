@@ -7,17 +7,13 @@ use Rattle.std.proofs.Math.ListN.{set}
 use Rattle.std.proofs.lemmas.Bool.{cases_lt}
 use Rattle.std.proofs.lemmas.Grind.{get_or-set_at}
 use Rattle.std.proofs.lemmas.List.{get_or-set_other, length-set, length-append}
-use Rattle.std.proofs.lemmas.List.Elements.{Contains-append_left, Contains-push_cases}
+use Rattle.std.proofs.lemmas.List.Elements.{Contains-append_left, Contains-push, Contains-push_cases}
 use Rattle.indexmap.specs.IndexSet.{insert_all}
 use Rattle.mig_model.specs.Template as model
 use Rattle.mig_schema.specs.Reach.{points, places, Uses, AreEmpty, AreUsers, IsAddedToEach}
 use Rattle.mig_schema.specs.Types.{Named}
-use Rattle.mig_schema.proofs.Inserted.{none_in_nil, is_first, is_later, inserted_new, inserted_cases}
+use Rattle.mig_schema.proofs.Inserted.{none_in_nil, inserted_new, inserted_cases}
 use Rattle.mig_schema.proofs.Reached.{uses_of_body}
-
-is_last : (xs : List ℕ) (x : ℕ) → Contains (xs ++ x ∷ []) x
-is_last [] x = is_first x []
-is_last (y ∷ xs) x = is_later y (xs ++ x ∷ []) x (is_last xs x)
 
 pub none_added : (place : ℕ) (lists : List (List ℕ)) → IsAddedToEach [] place lists lists
 none_added place lists = record { as_many = refl; all = λ p q. (λ c. inl c, λ e. by p q e) }
@@ -45,11 +41,11 @@ module _ (done : List ℕ) (list place : ℕ) (old now : List (List ℕ)) (s : I
     where
       there : Contains (get_or now list []) p ⊎ (place ≡ p) → Put p list
       there (inl c) = earlier p list c
-      there (inr e) = inr (sym e, is_last done list)
+      there (inr e) = inr (sym e, Contains-push done list)
 
       back : Put p list → Contains (get_or now list [] ++ place ∷ []) p
       back (inl c) = Contains-append_left (get_or now list []) (place ∷ []) p ((s.all p list).1 (inl c))
-      back (inr e) = subst (Contains (get_or now list [] ++ place ∷ [])) (sym e.0) (is_last (get_or now list []) place)
+      back (inr e) = subst (Contains (get_or now list [] ++ place ∷ [])) (sym e.0) (Contains-push (get_or now list []) place)
 
   elsewhere : (p q : ℕ) → (q ≡ list → ⊥) → Contains (get_or now q []) p ↔ Put p q
   elsewhere p q other = (earlier p q, back)

@@ -1,9 +1,9 @@
 -- The way of a version path, one name at a time.
 use Rattle.std.proofs.Common.{◌≡◌, ℕ, List, [], ◌∷◌, false, Option, Some, None, refl, ap}
 use Rattle.std.specs.Prelude.{is_some, option_and_then}
-use Rattle.mig_model.specs.Family.{Family, must_field, way_end, behind_point, is_record, uses_name, holds}
+use Rattle.mig_model.specs.Family.{Family, must_field, way_end, behind_point, is_record, holds}
 use Rattle.mig_model.specs.Template as model
-use Rattle.mig_model.specs.Template.{leaf, any, list, point, rec, sum}
+use Rattle.mig_model.specs.Template.{rec}
 use Rattle.mig_template.specs.declared.template.Template.{Template}
 use Rattle.mig_template.specs.declared.template.Template.TheVariants as V
 use Rattle.mig_template.specs.View.{template_of}
@@ -25,27 +25,9 @@ way_of_none f (x ∷ (y ∷ xs)) W h = ap (λ o. record_only (option_and_then (�
 
 pub no_record : (t : Template) → ((r : _) → t ≡ V.Rec r → ⊥) → is_record (template_of t) ≡ false
 no_record (V.Rec r) h = absurd (h r refl)
-no_record (V.Point n) h = refl
-no_record (V.Leaf k) h = refl
-no_record V.Any h = refl
-no_record (V.List t) h = refl
-no_record (V.Sum s t) h = refl
+no_record _ h = refl
 
 -- what is asked of a record at the end of the way
 pub is_there : (o : Option model.Template) → is_some (record_only o) ≡ holds is_record o
-is_there None = refl
 is_there (Some (rec fs c r)) = refl
-is_there (Some (leaf k)) = refl
-is_there (Some any) = refl
-is_there (Some (list W)) = refl
-is_there (Some (point n)) = refl
-is_there (Some (sum U W)) = refl
-
-pub uses_only : (x : List ℕ) (o : Option model.Template) → holds (uses_name x) (record_only o) ≡ holds (uses_name x) o
-uses_only x None = refl
-uses_only x (Some (rec fs c r)) = refl
-uses_only x (Some (leaf k)) = refl
-uses_only x (Some any) = refl
-uses_only x (Some (list W)) = refl
-uses_only x (Some (point n)) = refl
-uses_only x (Some (sum U W)) = refl
+is_there _ = refl

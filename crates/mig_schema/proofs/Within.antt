@@ -6,9 +6,9 @@ use Rattle.std.specs.Map.{keys_of}
 use Rattle.std.proofs.lemmas.Map.Entries.{length-keys_of}
 use Rattle.std.proofs.lemmas.Map.Made.{length-le_from_is_member}
 use Rattle.std.proofs.lemmas.Map.Steps.{list_any_congr}
-use Rattle.mig_model.specs.Family.{find_type, has_twice}
+use Rattle.mig_model.specs.Family.{find_type}
+use Rattle.mig_model.specs.Names.{has_twice, same_name}
 use Rattle.mig_model.specs.Template as model
-use Rattle.mig_model.specs.Template.{same_name}
 use Rattle.mig_template.proofs.Names.{apart_if_once}
 use Rattle.mig_schema.specs.Types.{Named, IsWithin}
 use Rattle.mig_schema.proofs.Types.{same_name_laws, found_here, found_later, is_some_find}

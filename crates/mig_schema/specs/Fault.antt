@@ -20,9 +20,9 @@ flaw_of S.VersionNameUsed = Some model.version_name_used
 flaw_of S.Memory = None
 
 -- the fault is the first one of the family; want of memory says nothing
-abbrev pub IsFault : SchemaFault → Option Flaw → Type 0
-IsFault S.Memory first = Unit {0}
-IsFault e first = first ≡ flaw_of e
+abbrev pub IsFamilyFault : SchemaFault → Option Flaw → Type 0
+IsFamilyFault S.Memory first = Unit {0}
+IsFamilyFault e first = first ≡ flaw_of e
 
 -- a name occurs twice, or there is want of memory
 abbrev pub IsTwice : SchemaFault → Bool → Type 0

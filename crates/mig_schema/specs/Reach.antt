@@ -4,7 +4,7 @@ use Rattle.std.specs.List.{filter_map, slice_get}
 use Rattle.std.specs.Map.{values_of}
 use Rattle.mig_model.specs.Family.{Family, body, is_named}
 use Rattle.mig_model.specs.Template.{Template, leaf, any, list, point, rec, sum, Fields, no_field, field, Choice, no_choice, choice, Cases, no_case, case}
-use Rattle.mig_schema.specs.Types.{Named, place_of}
+use Rattle.mig_schema.specs.Types.{Named, type_place}
 
 -- the names of the points in a template
 abbrev mutual
@@ -35,11 +35,11 @@ pub data Reaches (f : Family) : List ℕ → List ℕ → Type 0 where
 
 -- the places of those names that are types
 abbrev pub places : List Named → List (List ℕ) → List ℕ
-places ts ns = filter_map (place_of ts) ns
+places ts ns = filter_map (type_place ts) ns
 
 -- the places, in the order of declaration, are those of the types that the name reaches
 abbrev pub ArePlacesReached : Family → List ℕ → List ℕ → Type 0
-ArePlacesReached f from qs = (to : List ℕ) (q : ℕ) → place_of f.types to ≡ Some q → Contains qs q ↔ Reaches f from to
+ArePlacesReached f from qs = (to : List ℕ) (q : ℕ) → type_place f.types to ≡ Some q → Contains qs q ↔ Reaches f from to
 
 -- the name reaches one of these that is a named type
 abbrev pub ReachesSome : Family → List ℕ → List (List ℕ) → Type 0
@@ -47,7 +47,7 @@ ReachesSome f from names = (to : List ℕ) × Contains names to × IsTrue (is_na
 
 -- the places, in the order of declaration, are those of the types that reach one of the names
 abbrev pub ArePlacesReaching : Family → List (List ℕ) → List ℕ → Type 0
-ArePlacesReaching f names qs = (from : List ℕ) (q : ℕ) → place_of f.types from ≡ Some q → Contains qs q ↔ ReachesSome f from names
+ArePlacesReaching f names qs = (from : List ℕ) (q : ℕ) → type_place f.types from ≡ Some q → Contains qs q ↔ ReachesSome f from names
 
 -- a point in the body at the first place names the type at the second
 abbrev pub Uses : List Named → ℕ → ℕ → Type 0

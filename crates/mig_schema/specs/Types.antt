@@ -5,9 +5,9 @@ use Rattle.std.specs.Map.{keys_of}
 use Rattle.mig_model.specs.declared.form.Form.{Form}
 use Rattle.mig_model.specs.Family.{Family, find_type}
 use Rattle.mig_model.specs.Template as model
-use Rattle.mig_model.specs.Template.{same_name}
+use Rattle.mig_model.specs.Names.{same_name}
 use Rattle.mig_template.specs.declared.template.Template.{Template}
-use Rattle.mig_template.specs.Kept.{IsKept}
+use Rattle.mig_template.specs.Kept.{TemplateKept}
 use Rattle.mig_template.specs.View.{template_of}
 
 -- a name and a plain template
@@ -22,14 +22,14 @@ named_all ts = map named_of ts
 
 -- every template keeps what the records in it keep
 abbrev pub AllKept : List Named → Type 0
-AllKept ts = AllByRecursion (λ t. IsKept t.1) ts
+AllKept ts = AllByRecursion (λ t. TemplateKept t.1) ts
 
 abbrev pub family_of : Form → List (List ℕ) → List Named → List ℕ → Family
 family_of form version types root = record { form = form; version = version; types = types; root = root }
 
 -- the place of the first such named type, in the order of declaration
-abbrev pub place_of : List Named → List ℕ → Option ℕ
-place_of ts n = position (same_name n) (keys_of ts)
+abbrev pub type_place : List Named → List ℕ → Option ℕ
+type_place ts n = position (same_name n) (keys_of ts)
 
 -- each name that has a template in the first has it in the second too
 abbrev pub IsWithin : List Named → List Named → Type 0

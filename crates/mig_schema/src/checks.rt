@@ -1,8 +1,7 @@
 //! What makes a body faulty by its own parts alone.
 ghost use Rattle.std.specs.Prelude.{◌≡◌};
 ghost use Rattle.mig_model.specs.declared.kind.Kind as model;
-ghost use Rattle.mig_model.specs.Family.{has_kind_in, is_unknown, has_point_side, sides_overlap, is_mixed, is_point, any_inside, any_in_fields, any_in_cases};
-ghost use Rattle.mig_model.specs.Template.{fields_of, cases_of};
+ghost use Rattle.mig_model.specs.Family.{has_kind_in, is_unknown, has_point_side, sides_overlap, is_mixed, any_inside};
 ghost use Rattle.mig_template.specs.KindSet.{is_in};
 ghost use Rattle.mig_template.specs.View.{template_of};
 ghost use Rattle.mig_schema.specs.Check.{fails};
@@ -10,7 +9,7 @@ ghost use Rattle.mig_schema.specs.Check.{fails};
 use crate::kinds::{is_one, is_wrong_leaf};
 use crate::parts::Parts;
 use crate::{Form, Template};
-use mig_template::{Choice, Fields, KindSet};
+use mig_template::{KindSet, TemplateTest, is_point, passes_inside};
 
 /// What is asked of each template inside a body.
 #[derive(Clone, Copy, Debug, PartialEq, Eq)]
@@ -25,13 +24,6 @@ pub enum Check {
     Overlap,
     /// A list whose element hasn't exactly one kind.
     Mixed,
-}
-
-/// Whether it is a point.
-pub fn is_point(template: &Template) -> bool
-    ensures { result ≡ is_point (template_of template.now) }
-{
-    matches!(template, Template::Point(_))
 }
 
 /// Whether it is a sum with a point as a side.
@@ -49,11 +41,7 @@ fn do_sides_overlap(form: Form, template: &Template) -> bool
     ensures { result ≡ sides_overlap form (template_of template.now) }
 {
     match template {
-        Template::Sum(left, right) => {
-            let left = left.get().kinds(form);
-            let right = right.get().kinds(form);
-            left.meets(&right)
-        }
+        Template::Sum(left, right) => left.get().shares_kind(form, right.get()),
         _ => false,
     }
 }
@@ -109,54 +97,25 @@ impl Parts {
     }
 
     /// Whether the template or one inside it has what is asked.
-    #[cycle(inside)]
     pub fn is_inside(&self, check: Check, template: &Template) -> bool
         ensures { result ≡ any_inside (fails self.now check) (template_of template.now) }
     {
-        if self.fails(check, template) {
-            return true;
-        }
-        match template {
-            Template::Leaf(_) | Template::Any | Template::Point(_) => false,
-            Template::List(part) => self.is_inside(check, part.get()),
-            Template::Rec(record) => {
-                if self.is_in_fields(check, record.fields()) {
-                    return true;
-                }
-                match record.choice() {
-                    Some(choice) => self.is_in_choice(check, choice),
-                    None => false,
-                }
-            }
-            Template::Sum(left, right) => {
-                self.is_inside(check, left.get()) || self.is_inside(check, right.get())
-            }
-        }
+        let asked = CheckOf { parts: self, check };
+        passes_inside(&asked, template)
     }
+}
 
-    /// Whether a template in the fields has what is asked.
-    #[cycle(inside)]
-    fn is_in_fields(&self, check: Check, fields: &Fields) -> bool
-        ensures { result ≡ any_in_fields (fails self.now check) (fields_of fields.now) }
-    {
-        for field in fields.as_slice() {
-            if self.is_inside(check, &field.template) {
-                return true;
-            }
-        }
-        false
-    }
+// A check of templates that belong to these types.
+#[derive(Drop)]
+struct CheckOf<'a> {
+    parts: &'a Parts,
+    check: Check,
+}
 
-    /// Whether a template in the cases has what is asked.
-    #[cycle(inside)]
-    fn is_in_choice(&self, check: Check, choice: &Choice) -> bool
-        ensures { result ≡ any_in_cases (fails self.now check) (cases_of choice.now.1) }
-    {
-        for case in choice.cases() {
-            if self.is_in_fields(check, &case.fields) {
-                return true;
-            }
-        }
-        false
+impl<'a> TemplateTest for CheckOf<'a> {
+    ghost passes = { λ c. fails c.parts.now c.check };
+
+    fn passes(&self, template: &Template) -> bool {
+        self.parts.fails(self.check, template)
     }
 }

@@ -5,7 +5,7 @@ ghost use Rattle.std.specs.Map.{keys_of, values_of};
 ghost use Rattle.mig_model.specs.Family.{IsFormed, IsSame, find_type, is_named, is_unknown, any_inside, first_flaw};
 ghost use Rattle.mig_template.specs.View.{template_of};
 ghost use Rattle.mig_schema.specs.Types.{named_all, family_of, AllKept};
-ghost use Rattle.mig_schema.specs.Fault.{IsFault};
+ghost use Rattle.mig_schema.specs.Fault.{IsFamilyFault};
 ghost use Rattle.mig_schema.specs.Reach.{Reaches, ArePlacesReached, ArePlacesReaching};
 
 use crate::checks::Check;
@@ -48,7 +48,7 @@ impl Family {
         ensures made { IfOk result (λ f. f ≡ family_of form version (named_all types.items) root) }
         ensures formed { IfOk result (λ f. IsFormed f) }
         ensures fault { IfErr result (λ e.
-            IsFault e (first_flaw (family_of form version (named_all types.items) root))) }
+            IsFamilyFault e (first_flaw (family_of form version (named_all types.items) root))) }
     {
         let types = NamedTypes::new(alloc, types)?;
         let parts = Parts::new(form, version, types, root);

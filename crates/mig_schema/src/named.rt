@@ -4,9 +4,10 @@ ghost use Rattle.std.specs.Cmp.Lexicographic.{pointwise};
 ghost use Rattle.std.specs.List.{slice_get};
 ghost use Rattle.std.specs.Map.{keys_of, values_of};
 ghost use Rattle.indexmap.specs.IndexMap.{get, IsUnique};
-ghost use Rattle.mig_model.specs.Family.{find_type, has_twice};
+ghost use Rattle.mig_model.specs.Family.{find_type};
+ghost use Rattle.mig_model.specs.Names.{has_twice};
 ghost use Rattle.mig_template.specs.View.{template_of};
-ghost use Rattle.mig_schema.specs.Types.{named_all, place_of, AllKept, IsWithin};
+ghost use Rattle.mig_schema.specs.Types.{named_all, type_place, AllKept, IsWithin};
 ghost use Rattle.mig_schema.specs.Fault.{IsTwice};
 
 use crate::{Memory, Name, SchemaFault, Template};
@@ -116,7 +117,7 @@ impl NamedTypes {
 
     /// The place of the name in the order of declaration, and `None` exactly where no type has the name. It takes one look-up.
     pub fn place_of(&self, name: &Name) -> Option<usize>
-        ensures { result ≡ place_of self.now name.now }
+        ensures { result ≡ type_place self.now name.now }
     {
         self.map.get_index_of(name)
     }

@@ -13,11 +13,11 @@ ghost use Rattle.mig_schema.specs.Types.{named_all, family_of, AllKept};
 ghost use Rattle.mig_schema.specs.Check.{body_fails, record_only};
 ghost use Rattle.mig_schema.specs.Fault.{IsFound, first_flaws, later_flaws};
 
-use crate::checks::{Check, is_point};
+use crate::checks::Check;
 use crate::depth::is_deeper;
 use crate::named::NamedTypes;
 use crate::{Form, Memory, Name, SchemaFault, Template, VersionPath};
-use mig_template::{Choice, Fields, Presence, Record};
+use mig_template::{Choice, Fields, Presence, Record, is_point};
 use std::alloc::Global;
 use std::cmp::Ordering;
 use std::marker::Model;

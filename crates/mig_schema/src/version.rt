@@ -3,8 +3,8 @@
 ghost use Rattle.std.specs.Prelude.{◌≡◌, ◌↔◌, ◌≤◌, ◌<◌, ◌∷◌, length, map, option_map, IsTrue, IsSome, is_some, IfSome, IfNone, IfOk, OnOk, OnErr, true};
 ghost use Rattle.mig_model.specs.Family.{last_name};
 ghost use Rattle.mig_model.specs.Kinds.{put_in};
-ghost use Rattle.mig_model.specs.Names.{found, with_pair};
-ghost use Rattle.mig_model.specs.Version.{last_version, spot, on_spot, version_in, strip, put};
+ghost use Rattle.mig_model.specs.Names.{under, put};
+ghost use Rattle.mig_model.specs.Version.{last_version, spot, on_spot, version_in, strip, put_version};
 ghost use Rattle.mig_tree.specs.View.{plain_of};
 ghost use Rattle.mig_schema.specs.Version.{IsVersionPath, version_tree};
 
@@ -94,7 +94,8 @@ impl VersionPath {
     ) -> Result<(), Memory>
         requires spot { IsSome (spot self.now (plain_of tree.old)) }
         requires version { version ≤ last_version }
-        ensures ok { OnOk result (plain_of tree.new ≡ put self.now (version_tree form version) (plain_of tree.old)) }
+        ensures ok { OnOk result (plain_of tree.new
+            ≡ put_version self.now (version_tree form version) (plain_of tree.old)) }
         ensures err { OnErr result (plain_of tree.new ≡ plain_of tree.old) }
     {
         let name = Text::own(Vec::from_slice(alloc, self.last().bytes())?);
@@ -163,8 +164,8 @@ fn leads_to_map(names: &[Name], tree: &Tree) -> bool
 
 /// Puts the tree back under the name from which one was taken.
 fn put_back<'a>(entries: &mut Entries<'a>, name: &[u8], tree: Tree<'a>)
-    requires { is_some (found name.now entries.old) ≡ true }
-    ensures { entries.new ≡ with_pair name.now (plain_of tree.entry) entries.old }
+    requires { is_some (under name.now entries.old) ≡ true }
+    ensures { entries.new ≡ put name.now (plain_of tree.entry) entries.old }
 {
     let before = entries.swap(name, tree);
     drop(before);

@@ -2,11 +2,11 @@
 use Rattle.std.proofs.Common.{List, [], ◌∷◌, ◌++◌}
 use Rattle.std.specs.List.{AllByRecursion}
 use Rattle.mig_model.specs.Template.{Field, fields_of, cases_of}
-use Rattle.mig_model.specs.Ascends.{Ascends}
-use Rattle.mig_template.specs.Kept.{IsKept, FieldsKept, FieldListKept, CasesKept}
+use Rattle.mig_model.specs.Names.{Ascends}
+use Rattle.mig_template.specs.Kept.{TemplateKept, FieldsKept, FieldListKept, CasesKept}
 use Rattle.mig_template.specs.Parts.{Case}
 
-pub field_keeps_more : (fs : List Field) (f : Field) → FieldsKept (fields_of fs) → IsKept f.1.1 → FieldsKept (fields_of (fs ++ f ∷ []))
+pub field_keeps_more : (fs : List Field) (f : Field) → FieldsKept (fields_of fs) → TemplateKept f.1.1 → FieldsKept (fields_of (fs ++ f ∷ []))
 field_keeps_more [] f k h = (h, tt)
 field_keeps_more (g ∷ fs) f k h = (k.0, field_keeps_more fs f k.1 h)
 

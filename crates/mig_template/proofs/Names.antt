@@ -1,5 +1,6 @@
 -- Names of which none stands twice, and what moving them keeps.
 use Rattle.std.proofs.Common.{◌≡◌, ℕ, ◌||◌, List, [], ◌∷◌, ◌++◌, Bool, true, false, true≢false, refl, sym, ap, ◌∙◌}
+use Rattle.std.proofs.lemmas.Bool.{false_from_ne_true}
 use Rattle.std.specs.Prelude.{IsPermutation}
 use Rattle.std.specs.List.{AllByRecursion, IsDistinct, list_any}
 use Rattle.std.specs.Map.{keys_of}
@@ -7,10 +8,8 @@ use Rattle.std.proofs.lemmas.List.Folds.{list_any-append}
 use Rattle.std.proofs.lemmas.List.Sorted.{IsPermutation-map, IsPermutation-sym, list_any-IsPermutation}
 use Rattle.std.proofs.lemmas.Map.Keys.{IsDistinct-head, IsDistinct-tail, IsDistinct-cons, IsDistinct-IsPermutation}
 use Rattle.mig_model.proofs.Ascending.{flips}
-use Rattle.mig_model.specs.Family.{has_twice}
-use Rattle.mig_model.specs.Template.{same_name}
-use Rattle.mig_template.specs.Parts.{is_among}
-use Rattle.mig_model.proofs.Bools.{split_or, first_false, second_false}
+use Rattle.mig_model.specs.Names.{has_twice, same_name, is_among}
+use Rattle.mig_model.proofs.Bools.{split_or, right_or, first_false, second_false}
 use Rattle.mig_model.proofs.SameNames.{same_name_is}
 
 abbrev Apart : List (List ℕ) → Type 0
@@ -57,10 +56,6 @@ twice_in_both (m ∷ ms) ns h k =
     let here : is_among (ms ++ ns) m ≡ is_among ns m = list_any-append (same_name m) ms ns ∙ ap (λ b. b || is_among ns m) apart in
     λ i. here i || twice_in_both ms ns (second_false (is_among ms m) (has_twice ms) h) k i
 
-true_or : (a b : Bool) → b ≡ true → (a || b) ≡ true
-true_or false b h = h
-true_or true b h = refl
-
 more_among : (m : List ℕ) (ms ns : List (List ℕ)) → is_among ms m ≡ true → is_among (ms ++ ns) m ≡ true
 more_among m ms ns h = list_any-append (same_name m) ms ns ∙ ap (λ b. b || is_among ns m) h
 
@@ -70,7 +65,7 @@ twice_in_more (m ∷ ms) ns h = by (is_among ms m) refl h (twice_in_more ms ns)
   where
     by : (a : Bool) → is_among ms m ≡ a → (a || has_twice ms) ≡ true → (has_twice ms ≡ true → has_twice (ms ++ ns) ≡ true) → (is_among (ms ++ ns) m || has_twice (ms ++ ns)) ≡ true
     by true e f rest = ap (λ b. b || has_twice (ms ++ ns)) (more_among m ms ns e)
-    by false e f rest = true_or (is_among (ms ++ ns) m) (has_twice (ms ++ ns)) (rest f)
+    by false e f rest = right_or (is_among (ms ++ ns) m) (has_twice (ms ++ ns)) (rest f)
 
 -- moving what has names makes none stand twice
 pub keys_moved : {A : Type 0} (es ds : List (List ℕ × A)) → IsPermutation es ds → has_twice (keys_of es) ≡ has_twice (keys_of ds)
@@ -95,11 +90,7 @@ apart_from_others (m ∷ ms) ns x h a = by (same_name x m) refl a (apart_from_ot
 
 -- and none of the others is among the first
 pub apart_from_first : (ms ns : List (List ℕ)) (x : List ℕ) → has_twice (ms ++ ns) ≡ false → is_among ns x ≡ true → is_among ms x ≡ false
-apart_from_first ms ns x h a = by (is_among ms x) refl
-  where
-    by : (b : Bool) → is_among ms x ≡ b → is_among ms x ≡ false
-    by true e = absurd (true≢false (sym a ∙ apart_from_others ms ns x h e))
-    by false e = e
+apart_from_first ms ns x h a = false_from_ne_true (is_among ms x) (λ e. true≢false (sym a ∙ apart_from_others ms ns x h e))
 
 -- and in the first none stands twice
 pub first_once : (ms ns : List (List ℕ)) → has_twice (ms ++ ns) ≡ false → has_twice ms ≡ false

@@ -9,9 +9,8 @@ use Rattle.std.proofs.lemmas.Cmp.{nat_list_cmp_total}
 use Rattle.std.proofs.lemmas.List.Sorted.{Contains-permutation, IsPermutation-sym, IsPermutation-trans}
 use Rattle.std.proofs.lemmas.Map.Keys.{sorted_head, sorted_tail}
 use Rattle.mig_model.specs.declared.rest.Rest.{Rest}
-use Rattle.mig_model.specs.Names.{by_bytes}
+use Rattle.mig_model.specs.Names.{by_bytes, Ascends}
 use Rattle.mig_model.specs.Template.{Field}
-use Rattle.mig_model.specs.Ascends.{Ascends}
 use Rattle.mig_model.proofs.OneOrder.{one_order}
 use Rattle.mig_template.specs.Parts.{Case, Cases, RecordParts, FieldsOrdered, CasesOrdered, IsChoiceOf, IsRecordOf}
 
@@ -22,9 +21,8 @@ fields_once (g ∷ gs) (d ∷ ds) (c ∷ cs) h k =
     let fields : d.1 ≡ c.1 = one_order g.1 d.1 c.1 h.1.same k.1.same h.1.ascend k.1.ascend in
     λ i. (literal i, fields i) ∷ fields_once gs ds cs h.2 k.2 i
 fields_once [] [] (c ∷ cs) h k = absurd k
-fields_once [] (d ∷ ds) cs h k = absurd h
-fields_once (g ∷ gs) [] cs h k = absurd h
 fields_once (g ∷ gs) (d ∷ ds) [] h k = absurd k
+fields_once _ _ cs h k = absurd h
 
 cases_once : (gs cs bs : List Case) → CasesOrdered gs cs → CasesOrdered gs bs → cs ≡ bs
 cases_once gs cs bs h k =
@@ -39,9 +37,8 @@ choice_once (Some g) (Some c) (Some b) h k =
     let kept : c.2 ≡ b.2 = sym h.2 ∙ k.2 in
     λ i. Some (tag i, cases i, kept i)
 choice_once None None (Some b) h k = absurd k
-choice_once None (Some c) b h k = absurd h
-choice_once (Some g) None b h k = absurd h
 choice_once (Some g) (Some c) None h k = absurd k
+choice_once _ _ b h k = absurd h
 
 -- common fields that are given in another order give the same record
 pub one_record : (fs es : List Field) (c : Option Cases) (rest : Rest) (r s : RecordParts) → IsPermutation fs es → IsRecordOf fs c rest r → IsRecordOf es c rest s → r ≡ s

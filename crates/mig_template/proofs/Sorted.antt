@@ -1,5 +1,6 @@
 -- Fields and cases in the order of their names: none stands twice.
-use Rattle.std.proofs.Common.{◌≡◌, ℕ, List, Bool, true, false, map, refl}
+use Rattle.std.proofs.Common.{◌≡◌, ℕ, List, true, false, map}
+use Rattle.std.proofs.lemmas.Bool.{true_from_ne_false}
 use Rattle.std.specs.Prelude.{not, ◌==◌}
 use Rattle.std.specs.Ordering.{ordering_index}
 use Rattle.std.specs.declared.cmp.Ordering.{Ordering}
@@ -7,10 +8,8 @@ use Rattle.std.specs.declared.cmp.Ordering.TheVariants.{Less, Equal, Greater}
 use Rattle.std.specs.List.Sorted.{IsSortedByKey}
 use Rattle.std.specs.Map.{keys_of}
 use Rattle.std.proofs.lemmas.Map.Keys.{IsDistinct-from_sorted}
-use Rattle.mig_model.specs.Family.{has_twice}
-use Rattle.mig_model.specs.Names.{by_bytes}
+use Rattle.mig_model.specs.Names.{has_twice, by_bytes, Ascends}
 use Rattle.mig_model.proofs.Rising.{entries_ascend}
-use Rattle.mig_model.specs.Ascends.{Ascends}
 use Rattle.mig_template.proofs.Names.{once_if_apart, apart_if_once}
 
 -- where names ascend, none stands twice
@@ -23,8 +22,4 @@ module _ {X A : Type 0} (view : X → List ℕ × A) where
   ascends_if_once es sorted once = entries_ascend view es sorted (apart_if_once (keys_of (map view es)) once)
 
   pub twice_if_not : (es : List X) → IsSortedByKey (λ x. (view x).0) by_bytes es → (Ascends (map view es) → ⊥) → has_twice (keys_of (map view es)) ≡ true
-  twice_if_not es sorted never = by (has_twice (keys_of (map view es))) refl
-    where
-      by : (b : Bool) → has_twice (keys_of (map view es)) ≡ b → has_twice (keys_of (map view es)) ≡ true
-      by true e = e
-      by false e = absurd (never (ascends_if_once es sorted e))
+  twice_if_not es sorted never = true_from_ne_false (has_twice (keys_of (map view es))) (λ e. never (ascends_if_once es sorted e))

@@ -5,7 +5,7 @@ use Rattle.mig_model.specs.declared.rest.Rest.TheVariants.{Open}
 use Rattle.mig_model.specs.Template.{Template, rec, Field, Fields, no_field, fields_of, field_list, Choice, no_choice, cases_of, case_list}
 use Rattle.mig_template.specs.Parts as parts
 use Rattle.mig_template.specs.Parts.{RecordParts, IsRecord, choice_of, cases_in, record_of}
-use Rattle.mig_template.specs.Kept.{IsKept, RecordKept}
+use Rattle.mig_template.specs.Kept.{TemplateKept, RecordKept}
 
 pub field_list_of : (fs : List Field) → field_list (fields_of fs) ≡ fs
 field_list_of [] = refl
@@ -19,7 +19,7 @@ pub cases_in_of : (c : Option parts.Cases) → cases_in (choice_of c) ≡ c
 cases_in_of None = refl
 cases_in_of (Some c) = ap (λ ds. Some (c.0, ds, c.2)) (case_list_of c.1)
 
-pub record_kept : (p : RecordParts) → RecordKept p → IsKept (record_of p)
+pub record_kept : (p : RecordParts) → RecordKept p → TemplateKept (record_of p)
 record_kept p k =
     (subst (λ fs. IsRecord fs (cases_in (choice_of p.choice))) (sym (field_list_of p.fields)) (subst (λ c. IsRecord p.fields c) (sym (cases_in_of p.choice)) k.0), k.1)
 

@@ -5,10 +5,8 @@ use Rattle.std.specs.Map.{keys_of, lookup}
 use Rattle.std.specs.BTreeMap.{is_at}
 use Rattle.mig_model.specs.declared.presence.Presence.{Presence}
 use Rattle.mig_model.specs.declared.rest.Rest.{Rest}
-use Rattle.mig_model.specs.Ascends.{Ascends}
-use Rattle.mig_model.specs.Names.{by_bytes}
-use Rattle.mig_model.specs.Family.{has_twice}
-use Rattle.mig_model.specs.Template.{Template, rec, Field, fields_of, Choice, no_choice, choice, cases_of, case_list, same_name, is_must}
+use Rattle.mig_model.specs.Names.{Ascends, by_bytes, has_twice, same_name, is_among}
+use Rattle.mig_model.specs.Template.{Template, rec, Field, fields_of, Choice, no_choice, choice, cases_of, case_list, is_must}
 
 -- a literal, and the fields that a record has where its tag is that literal
 abbrev pub Case : Type 0
@@ -38,17 +36,9 @@ record_of p = rec (fields_of p.fields) (choice_of p.choice) p.rest
 abbrev pub musts_in : List Field → ℕ
 musts_in fs = count_by (λ f. is_must f.1.0) fs
 
--- the presence and the template of the field of that name
-abbrev pub found_field : List ℕ → List Field → Option (Presence × Template)
-found_field name fs = lookup (is_at (by_bytes name)) fs
-
 -- a name of the case is there twice, or is that of the tag or of a common field
 abbrev pub has_twice_in : List (List ℕ) → Case → Bool
 has_twice_in others c = has_twice (keys_of c.1 ++ others)
-
--- the name is one of these
-abbrev pub is_among : List (List ℕ) → List ℕ → Bool
-is_among names n = list_any (same_name n) names
 
 -- in the cases, which stand beside those other names, two names or literals that must be distinct are equal
 abbrev pub is_twice_in : List (List ℕ) → List Case → Bool

@@ -4,8 +4,7 @@ ghost use Rattle.std.specs.List.Sorted.{IsSearchInRange};
 ghost use Rattle.std.specs.Map.{lookup};
 ghost use Rattle.std.specs.BTreeMap.{is_at};
 ghost use Rattle.std_collections.specs.Layout.BTreeMap.{seek};
-ghost use Rattle.mig_model.specs.Names.{by_bytes};
-ghost use Rattle.mig_model.specs.Ascends.{Ascends};
+ghost use Rattle.mig_model.specs.Names.{by_bytes, Ascends};
 ghost use Rattle.mig_template.specs.Parts.{found_case};
 ghost use Rattle.mig_template.specs.View.{case_of};
 

@@ -2,12 +2,11 @@
 ghost use Rattle.std.specs.Prelude.{◌≡◌, ◌∷◌, map, false, true, IsTrue, IfSome, IfNone, IfOk, IfErr};
 ghost use Rattle.std.specs.List.{AllByRecursion, list_any};
 ghost use Rattle.std.specs.Map.{keys_of};
-ghost use Rattle.mig_model.specs.Family.{has_twice};
-ghost use Rattle.mig_model.specs.Template.{same_name, cases_of};
+ghost use Rattle.mig_model.specs.Names.{has_twice, same_name, Ascends, is_among};
+ghost use Rattle.mig_model.specs.Template.{cases_of};
 ghost use Rattle.mig_template.specs.Kept.{CasesKept};
-ghost use Rattle.mig_model.specs.Ascends.{Ascends};
-ghost use Rattle.mig_template.specs.Parts.{IsOrderOf, FieldsOrdered, CasesOrdered, is_among, has_twice_in, is_twice_in};
-ghost use Rattle.mig_template.specs.Fault.{IsFault};
+ghost use Rattle.mig_template.specs.Parts.{IsOrderOf, FieldsOrdered, CasesOrdered, has_twice_in, is_twice_in};
+ghost use Rattle.mig_template.specs.Fault.{IsRecordFault};
 ghost use Rattle.mig_template.specs.View.{field_of, case_of, given_case};
 
 use crate::ordering::order_fields;
@@ -76,7 +75,7 @@ fn order_each(
     ensures once { IfOk result (λ cs.
         list_any (has_twice_in (tag.now ∷ keys_of common.now)) (map given_case given.items) ≡ false) }
     ensures twice { IfErr result (λ e.
-        IsFault e (list_any (has_twice_in (tag.now ∷ keys_of common.now)) (map given_case given.items)) false) }
+        IsRecordFault e (list_any (has_twice_in (tag.now ∷ keys_of common.now)) (map given_case given.items)) false) }
 {
     let mut cases = Vec::new(alloc);
     for (literal, fields) in given {
@@ -113,7 +112,7 @@ pub fn order_cases(
     ensures ascend { IfOk result (λ cs. AllByRecursion (λ d. Ascends d.1) (map case_of cs.items)) }
     ensures once { IfOk result (λ cs. is_twice_in (tag.now ∷ keys_of common.now) (map given_case given.items) ≡ false) }
     ensures twice { IfErr result (λ e.
-        IsFault e (is_twice_in (tag.now ∷ keys_of common.now) (map given_case given.items)) false) }
+        IsRecordFault e (is_twice_in (tag.now ∷ keys_of common.now) (map given_case given.items)) false) }
 {
     let mut cases = order_each(alloc, given, tag, common)?;
     sort_by_key(&mut cases);

@@ -3,10 +3,9 @@ ghost use Rattle.std.specs.Prelude.{◌≡◌, ◌↔◌, length, map, option_ma
 ghost use Rattle.std.specs.List.Sorted.{IsSearchInRange};
 ghost use Rattle.std.specs.Map.{keys_of};
 ghost use Rattle.std_collections.specs.Layout.BTreeMap.{seek};
-ghost use Rattle.mig_model.specs.Names.{by_bytes};
-ghost use Rattle.mig_model.specs.Ascends.{Ascends};
-ghost use Rattle.mig_template.specs.Parts.{found_field, is_among, musts_in};
-ghost use Rattle.mig_template.specs.Kept.{IsKept};
+ghost use Rattle.mig_model.specs.Names.{by_bytes, Ascends, under, is_among};
+ghost use Rattle.mig_template.specs.Parts.{musts_in};
+ghost use Rattle.mig_template.specs.Kept.{TemplateKept};
 ghost use Rattle.mig_template.specs.Retyped.{retyped, with_templates};
 ghost use Rattle.mig_template.specs.View.{template_of, field_of};
 
@@ -49,7 +48,8 @@ impl Model for Fields {
     ghost use Rattle.mig_template.specs.Parts.{musts_in};
     ghost use Rattle.mig_template.specs.Kept.{FieldListKept};
 
-    ghost invariant = { λ a. FieldListKept (map field_of a.list.items) × (a.musts ≡ musts_in (map field_of a.list.items)) };
+    ghost invariant = { λ a. FieldListKept (map field_of a.list.items) × (a.musts
+        ≡ musts_in (map field_of a.list.items)) };
 
     ghost use Rattle.mig_template.specs.Size.{field_list_size};
 
@@ -82,7 +82,7 @@ impl Field {
     /// The field with another template, or a copy of it.
     fn with_template(&self, alloc: Global, template: Option<Template>) -> Result<Field, Memory>
         ensures field { IfOk result (λ f. field_of f ≡ retyped (option_map template_of template) (field_of self.now)) }
-        ensures keep { IfOk result (λ f. IsKept (template_of f.template)) }
+        ensures keep { IfOk result (λ f. TemplateKept (template_of f.template)) }
     {
         let name = self.name.copy(alloc)?;
         let template = match template {
@@ -109,7 +109,6 @@ impl Field {
 }
 
 impl Fields {
-    ghost use Rattle.mig_model.specs.Template.{fields_of, fields_have_point};
     ghost use Rattle.mig_template.specs.Kept.{FieldListKept};
 
     /// These fields, whose names ascend and whose templates keep what a template keeps. It counts those that have to be there.
@@ -165,7 +164,7 @@ impl Fields {
     pub fn get(&self, name: &[u8]) -> Option<&Field>
         ensures name { IfSome result (λ f. f.now.name ≡ name.now) }
         ensures found { option_map (λ f. (f.now.presence, template_of f.now.template)) result
-            ≡ found_field name.now self.now }
+            ≡ under name.now self.now }
     {
         match Fields::place(self.list.as_slice(), name) {
             Ok(at) => Some(&self.list[at]),
@@ -178,19 +177,6 @@ impl Fields {
         ensures { result ≡ is_among (keys_of self.now) name.now }
     {
         self.get(name).is_some()
-    }
-
-    /// Whether a point occurs in a field's template.
-    #[cycle(points)]
-    pub fn has_point(&self) -> bool
-        ensures { result ≡ fields_have_point (fields_of self.now) }
-    {
-        for field in self.as_slice() {
-            if field.template.has_point() {
-                return true;
-            }
-        }
-        false
     }
 
     /// The fields with other templates, in their order. A field without one gets a copy of its own.

@@ -5,6 +5,7 @@ mod case_search;
 mod cases;
 mod fault;
 mod fields;
+mod inside;
 mod kinds;
 mod ordering;
 mod record;
@@ -12,6 +13,7 @@ mod template;
 
 pub use fault::RecordFault;
 pub use fields::{Field, Fields};
+pub use inside::{IsPoint, TemplateTest, is_point, passes_inside};
 pub use kinds::KindSet;
 pub use mig_model::{Presence, Rest};
 pub use mig_tree::{Form, Kind, Memory, Name};

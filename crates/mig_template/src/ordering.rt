@@ -1,7 +1,7 @@
 //! Fields that are given in any order.
 ghost use Rattle.std.specs.Prelude.{◌≡◌, map, false, true, IsTrue, IfSome, IfNone};
 ghost use Rattle.std.specs.Map.{keys_of};
-ghost use Rattle.mig_model.specs.Family.{has_twice};
+ghost use Rattle.mig_model.specs.Names.{has_twice};
 ghost use Rattle.mig_model.specs.Template.{fields_of};
 ghost use Rattle.mig_template.specs.Parts.{IsOrderOf};
 ghost use Rattle.mig_template.specs.Kept.{FieldsKept};

@@ -1,7 +1,7 @@
 //! Records: their parts, and records with other templates in the same places.
 ghost use Rattle.std.specs.Prelude.{◌≡◌, ◌↔◌, Some, false, length, map, option_map, IfOk, IfErr, IsTrue};
 ghost use Rattle.mig_template.specs.Parts.{IsRecordOf, is_twice_named, has_no_case, choice_of};
-ghost use Rattle.mig_template.specs.Fault.{IsFault};
+ghost use Rattle.mig_template.specs.Fault.{IsRecordFault};
 ghost use Rattle.mig_model.specs.Template.{cases_of};
 ghost use Rattle.mig_template.specs.Kept.{FieldListKept, CasesKept, ChoiceKept};
 ghost use Rattle.mig_template.specs.Retyped.{HavePlaces, with_templates, choice_with, record_with, cases_or_none};
@@ -58,7 +58,7 @@ impl Model for Choice {
     ghost coded = { coded_choice };
 
     ghost use Rattle.mig_template.specs.Parts.{IsRecordOf, is_twice_named, has_no_case};
-    ghost use Rattle.mig_template.specs.Fault.{IsFault};
+    ghost use Rattle.mig_template.specs.Fault.{IsRecordFault};
     ghost use Rattle.mig_template.specs.View.{field_of, case_of, given_choice};
 
     ghost view = { λ a. (a.tag, map case_of a.cases.items, a.kept) };
@@ -124,7 +124,6 @@ impl Case {
 }
 
 impl Choice {
-    ghost use Rattle.mig_model.specs.Template.{choice_has_point};
     ghost use Rattle.mig_template.specs.Parts.{choice_of};
 
     /// The choice of a tag's name and cases in the order of their literals.
@@ -163,19 +162,6 @@ impl Choice {
     {
         let Choice { tag, cases, kept } = self;
         (tag, cases, kept)
-    }
-
-    /// Whether a point occurs in a case.
-    #[cycle(points)]
-    pub fn has_point(&self) -> bool
-        ensures { result ≡ choice_has_point (choice_of (Some self.now)) }
-    {
-        for case in self.cases() {
-            if case.fields.has_point() {
-                return true;
-            }
-        }
-        false
     }
 
     /// The choice with other templates, for each case in order a list as for its fields.
@@ -297,7 +283,7 @@ impl Record {
         ensures once { IfOk result (λ r. is_twice_named (map field_of fields.items) (given_choice choice) ≡ false) }
         ensures some { IfOk result (λ r. has_no_case (given_choice choice) ≡ false) }
         ensures fault { IfErr result (λ e.
-            IsFault e (is_twice_named (map field_of fields.items) (given_choice choice)) (has_no_case
+            IsRecordFault e (is_twice_named (map field_of fields.items) (given_choice choice)) (has_no_case
             (given_choice choice))) }
     {
         let Some(fields) = order_fields(fields) else {
@@ -324,7 +310,6 @@ impl Record {
         })
     }
 
-    ghost use Rattle.mig_model.specs.Template.{has_point};
     ghost use Rattle.mig_template.specs.Parts.{record_of};
     ghost use Rattle.mig_template.specs.Kept.{RecordKept};
 
@@ -381,20 +366,6 @@ impl Record {
         ensures { RecordKept self.now }
     {
         let _rest = self.rest;
-    }
-
-    /// Whether a point occurs in it.
-    #[cycle(points)]
-    pub fn has_point(&self) -> bool
-        ensures { result ≡ has_point (record_of self.now) }
-    {
-        if self.fields().has_point() {
-            return true;
-        }
-        match self.choice() {
-            Some(choice) => choice.has_point(),
-            None => false,
-        }
     }
 
     /// An equal record.

@@ -2,7 +2,7 @@
 ghost use Rattle.std.specs.Prelude.{◌≡◌, ◌↔◌, IfOk, IsTrue};
 
 use crate::kinds::same_kind;
-use crate::{Form, Kind, KindSet, Memory, Name, Record};
+use crate::{Form, IsPoint, Kind, KindSet, Memory, Name, Record, passes_inside};
 use std::alloc::Global;
 use std::marker::Model;
 
@@ -38,9 +38,9 @@ impl Model for TemplateBox {
 
     ghost view = { λ a. template_of a.template.value };
 
-    ghost use Rattle.mig_template.specs.Kept.{IsKept};
+    ghost use Rattle.mig_template.specs.Kept.{TemplateKept};
 
-    ghost invariant = { λ a. IsKept (template_of a.template.value) };
+    ghost invariant = { λ a. TemplateKept (template_of a.template.value) };
 
     ghost use Rattle.mig_template.specs.Size.{template_size};
 
@@ -54,7 +54,7 @@ impl Model for TemplateBox {
 
 impl TemplateBox {
     ghost use Rattle.mig_template.specs.View.{template_of};
-    ghost use Rattle.mig_template.specs.Kept.{IsKept};
+    ghost use Rattle.mig_template.specs.Kept.{TemplateKept};
 
     /// The template, on the heap.
     pub fn new(alloc: Global, template: Template) -> Result<TemplateBox, Memory>
@@ -69,7 +69,7 @@ impl TemplateBox {
     /// The template itself.
     pub fn get(&self) -> &Template
         ensures template { template_of result.now ≡ self.now }
-        ensures keep { IsKept self.now }
+        ensures keep { TemplateKept self.now }
     {
         &*self.template
     }
@@ -77,14 +77,15 @@ impl TemplateBox {
 
 impl Template {
     ghost use Rattle.mig_model.specs.declared.kind.Kind as model;
-    ghost use Rattle.mig_model.specs.Template.{has_kind, has_point};
+    ghost use Rattle.mig_model.specs.Family.{has_point, sides_overlap};
+    ghost use Rattle.mig_model.specs.Template.{has_kind, sum};
     ghost use Rattle.mig_template.specs.KindSet.{is_in};
     ghost use Rattle.mig_template.specs.View.{template_of};
-    ghost use Rattle.mig_template.specs.Kept.{IsKept};
+    ghost use Rattle.mig_template.specs.Kept.{TemplateKept};
 
     /// Does nothing. Its contract tells what every template keeps at every depth.
     pub fn keeps(&self)
-        ensures { IsKept (template_of self.now) }
+        ensures { TemplateKept (template_of self.now) }
     {
         match self {
             Template::List(part) => {
@@ -117,18 +118,20 @@ impl Template {
         }
     }
 
+    /// Whether the two have a root kind in common, so that a sum of them couldn't be told by its kinds.
+    pub fn shares_kind(&self, form: Form, other: &Template) -> bool
+        ensures { result ≡ sides_overlap form (sum (template_of self.now) (template_of other.now)) }
+    {
+        let kinds = self.kinds(form);
+        let others = other.kinds(form);
+        kinds.meets(&others)
+    }
+
     /// Whether a point occurs in it.
-    #[cycle(points)]
     pub fn has_point(&self) -> bool
         ensures { result ≡ has_point (template_of self.now) }
     {
-        match self {
-            Template::Leaf(_) | Template::Any => false,
-            Template::List(part) => part.get().has_point(),
-            Template::Point(_) => true,
-            Template::Rec(record) => record.has_point(),
-            Template::Sum(left, right) => left.get().has_point() || right.get().has_point(),
-        }
+        passes_inside(&IsPoint, self)
     }
 
     /// An equal template.

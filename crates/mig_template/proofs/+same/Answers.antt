@@ -1,4 +1,4 @@
-use Rattle.std.proofs.Common.{◌≡◌, ◌<◌, length, map, sym, ap, ◌∙◌, rules, arith}
+use Rattle.std.proofs.Common.{◌≡◌, map, sym, ap, ◌∙◌, rules, arith}
 use Rattle.std.specs.Prelude.{IsTrue}
 use Rattle.mig_model.specs.Template.{cases_of}
 use Rattle.mig_template.specs.Size.{field_list_size, cases_size}
@@ -22,12 +22,11 @@ fields::Fields::same-same-requires t c =
 pub fields::Fields::same-returns-then-not-same : goal.fields::Fields::same-returns-then-not-same
 fields::Fields::same-returns-then-not-same t c =
     let xs = c.as_slice-list.result.now in
-    let ys = c.as_slice-others.result.now in
-    let inside : c.loop-at.at < length ys = omega arith in (
+    let ys = c.as_slice-others.result.now in (
       λ never. absurd cc,
       λ e.
           let both : map field_of xs ≡ map field_of ys = c.as_slice-list.ensures.fields ∙ e ∙ sym c.as_slice-others.ensures.fields in
-          let told : IsTrue c.same.result = c.same.ensures.1 (views_at field_of xs ys c.loop-at.at c.index-list-at.result c.index-others-at.result c.loop-at-test.true inside c.index-list-at.is c.index-others-at.is both) in
+          let told : IsTrue c.same.result = c.same.ensures.1 (views_at field_of xs ys c.loop-at.at c.index-list-at.result c.index-others-at.result c.loop-at-test.true (omega arith) c.index-list-at.is c.index-others-at.is both) in
           absurd cc,
     )
 
@@ -35,9 +34,7 @@ pub fields::Fields::same-loop-at-preserved : goal.fields::Fields::same-loop-at-p
 fields::Fields::same-loop-at-preserved t c =
     let xs = c.as_slice-list.result.now in
     let ys = c.as_slice-others.result.now in
-    let inside : c.loop-at.at < length ys = omega arith in
-    let told : IsTrue c.same.result = search rules in
-    alike_more field_of xs ys c.loop-at.at c.index-list-at.result c.index-others-at.result c.loop-at-test.true inside c.index-list-at.is c.index-others-at.is c.loop-at.invariant (c.same.ensures.0 told)
+    alike_more field_of xs ys c.loop-at.at c.index-list-at.result c.index-others-at.result c.loop-at-test.true (omega arith) c.index-list-at.is c.index-others-at.is c.loop-at.invariant (c.same.ensures.0 (search rules))
 
 pub record::Choice::same-same-requires : goal.record::Choice::same-same-requires
 record::Choice::same-same-requires t c =
@@ -46,12 +43,11 @@ record::Choice::same-same-requires t c =
 pub record::Choice::same-returns-then-not-same : goal.record::Choice::same-returns-then-not-same
 record::Choice::same-returns-then-not-same t c =
     let xs = c.cases-list.result.now in
-    let ys = c.cases-others.result.now in
-    let inside : c.loop-at.at < length ys = omega arith in (
+    let ys = c.cases-others.result.now in (
       λ never. absurd cc,
       λ e.
           let both : map case_of xs ≡ map case_of ys = c.cases-list.ensures ∙ ap (λ p. p.1) e ∙ sym c.cases-others.ensures in
-          let told : IsTrue c.same.result = c.same.ensures.1 (views_at case_of xs ys c.loop-at.at c.index-list-at.result c.index-others-at.result c.loop-at-test.true inside c.index-list-at.is c.index-others-at.is both) in
+          let told : IsTrue c.same.result = c.same.ensures.1 (views_at case_of xs ys c.loop-at.at c.index-list-at.result c.index-others-at.result c.loop-at-test.true (omega arith) c.index-list-at.is c.index-others-at.is both) in
           absurd cc,
     )
 
@@ -59,6 +55,4 @@ pub record::Choice::same-loop-at-preserved : goal.record::Choice::same-loop-at-p
 record::Choice::same-loop-at-preserved t c =
     let xs = c.cases-list.result.now in
     let ys = c.cases-others.result.now in
-    let inside : c.loop-at.at < length ys = omega arith in
-    let told : IsTrue c.same.result = search rules in
-    alike_more case_of xs ys c.loop-at.at c.index-list-at.result c.index-others-at.result c.loop-at-test.true inside c.index-list-at.is c.index-others-at.is c.loop-at.invariant (c.same.ensures.0 told)
+    alike_more case_of xs ys c.loop-at.at c.index-list-at.result c.index-others-at.result c.loop-at-test.true (omega arith) c.index-list-at.is c.index-others-at.is c.loop-at.invariant (c.same.ensures.0 (search rules))

@@ -1,7 +1,7 @@
 use Rattle.std.proofs.Common.{◌≡◌, ◌∷◌, map, drop}
 use Rattle.std.specs.List.{list_any}
 use Rattle.std.specs.Map.{keys_of}
-use Rattle.mig_template.specs.Parts.{is_among}
+use Rattle.mig_model.specs.Names.{is_among}
 use Rattle.mig_template.specs.View.{field_of}
 use Rattle.mig_template.proofs.cases.is_any_taken.Given as goal
 

@@ -2,7 +2,7 @@ use Rattle.std.proofs.Common.{◌∙◌, ◌∷◌, List, map, sym, ap}
 use Rattle.std.specs.List.{list_any}
 use Rattle.std.specs.Map.{keys_of}
 use Rattle.mig_model.specs.Template.{Field}
-use Rattle.mig_template.specs.Parts.{is_among}
+use Rattle.mig_model.specs.Names.{is_among}
 use Rattle.mig_template.specs.View.{field_of}
 use Rattle.mig_template.proofs.Names.{taken_in, twice_in_more}
 use Rattle.mig_template.proofs.cases.order_case.Goals as goal

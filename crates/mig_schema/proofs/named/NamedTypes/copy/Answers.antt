@@ -1,7 +1,7 @@
 use Rattle.std.proofs.Common.{◌≡◌, ◌∙◌, ◌++◌, ◌∷◌, ℕ, List, nat_eq, true, false, None, sym, ap, subst}
 use Rattle.std.specs.Cmp.Lexicographic.{pointwise}
 use Rattle.std.specs.Map.{keys_of, lookup}
-use Rattle.mig_model.specs.Family.{has_twice}
+use Rattle.mig_model.specs.Names.{has_twice}
 use Rattle.mig_template.specs.View.{template_of}
 use Rattle.mig_template.specs.declared.template.Template.{Template}
 use Rattle.mig_schema.specs.Types.{Named, named_of, named_all}

@@ -1,6 +1,6 @@
 use Rattle.std.proofs.Common.{sym, ap, ◌∙◌}
 use Rattle.std.specs.Map.{keys_of}
-use Rattle.mig_model.specs.Family.{has_twice}
+use Rattle.mig_model.specs.Names.{has_twice}
 use Rattle.mig_schema.proofs.Types.{once_if_unique}
 use Rattle.mig_schema.proofs.named.NamedTypes.len.Goals as goal
 

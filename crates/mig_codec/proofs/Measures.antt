@@ -2,7 +2,7 @@
 use Rattle.std.proofs.Common.{◌≡◌, ℕ, ◌+◌, ◌*◌, ◌≤◌, List, [], ◌∷◌, ◌++◌, map, false, refl, arith, ap}
 use Rattle.std.proofs.Math.Nat.{mul-le-mul_right}
 use Rattle.mig_model.specs.Plain.{Plain, size, items_size, entries_size}
-use Rattle.mig_model.specs.Template.{Template, leaf, any, list, point, rec, sum}
+use Rattle.mig_model.specs.Template.{Template, leaf, point}
 use Rattle.mig_model.specs.Family.{Family, is_point}
 use Rattle.mig_template.specs.Size.{template_size}
 use Rattle.mig_tree.specs.View.{plain_of, entry_of}
@@ -32,27 +32,15 @@ entries_work f es = entries_size es * width f + width f
 
 pub rank_part : (f : Family) (V : Template) → template_size V ≤ family_size f → rank f V ≤ family_size f + 1
 rank_part f (leaf k) l = omega arith
-rank_part f any l = omega arith
-rank_part f (list V) l = omega arith
-rank_part f (point n) l = omega arith
-rank_part f (rec fs c r) l = omega arith
-rank_part f (sum V W) l = omega arith
+rank_part f _ l = omega arith
 
 pub rank_body : (f : Family) (V : Template) → is_point V ≡ false → template_size V ≤ family_size f → rank f V ≤ family_size f
-rank_body f (leaf k) e l = l
-rank_body f any e l = l
-rank_body f (list V) e l = l
 rank_body f (point n) e l = absurd cc
-rank_body f (rec fs c r) e l = l
-rank_body f (sum V W) e l = l
+rank_body f _ e l = l
 
 pub rank_side : (f : Family) (V : Template) → is_point V ≡ false → rank f V ≡ template_size V
-rank_side f (leaf k) e = refl
-rank_side f any e = refl
-rank_side f (list V) e = refl
 rank_side f (point n) e = absurd cc
-rank_side f (rec fs c r) e = refl
-rank_side f (sum V W) e = refl
+rank_side f _ e = refl
 
 -- the work on a tree is less where the tree is smaller, and no more than that on trees of which it is one
 pub less_work : (f : Family) (V : Template) (t : Plain) (n : ℕ) → template_size V ≤ family_size f → size t ≤ n → work f V t + 1 ≤ n * width f + width f

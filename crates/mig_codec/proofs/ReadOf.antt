@@ -8,11 +8,11 @@ use Rattle.std.proofs.lemmas.Map.Keys.{sorted_head, sorted_tail}
 use Rattle.mig_model.specs.Plain as plain
 use Rattle.mig_model.specs.Plain.{Plain, trees_of, pairs_of}
 use Rattle.mig_model.specs.Kinds.{kind_of, items_of_trees}
-use Rattle.mig_model.specs.Names.{by_bytes, IsNamed, found}
+use Rattle.mig_model.specs.Names.{by_bytes, Ascends, under, same_name}
 use Rattle.mig_model.specs.Inhabits.{Entries}
-use Rattle.mig_model.specs.Template.{Template, list, point, sum, any, same_name, has_kind}
+use Rattle.mig_model.specs.Template.{Template, list, point, sum, any, has_kind}
 use Rattle.mig_model.specs.Family.{Family, find_type, body, IsFormed}
-use Rattle.mig_model.specs.Place.{Place, Wrong, named, sooner, under, at_name, wrong_item, wrong_entry, place}
+use Rattle.mig_model.specs.Place.{Place, Wrong, named, sooner, place_under, at_name, wrong_item, wrong_entry, place}
 use Rattle.mig_laws.proofs.Laws.{place_unfolds}
 use Rattle.mig_laws.proofs.Reading.{wrong_left, wrong_right}
 use Rattle.mig_template.specs.Parts as parts
@@ -85,18 +85,18 @@ record_read f p es row r c read = record {
 }
 
 -- the pair of a name in a map
-found_here : (ys rest : Entries) (n : List ℕ) (t : Plain) → IsNamed (ys ++ (n, t) ∷ rest) → found n (ys ++ (n, t) ∷ rest) ≡ Some t
-found_here [] rest n t s = (λ i. if same_name_itself n i then Some t else found n rest)
+pub found_here : (ys rest : Entries) (n : List ℕ) (t : Plain) → Ascends (ys ++ (n, t) ∷ rest) → under n (ys ++ (n, t) ∷ rest) ≡ Some t
+found_here [] rest n t s = (λ i. if same_name_itself n i then Some t else under n rest)
 found_here (y ∷ ys) rest n t s = by (same_name n y.0) refl (found_here ys rest n t (sorted_tail by_bytes y.0 (keys_of (ys ++ (n, t) ∷ rest)) s))
   where
     less : by_bytes y.0 n ≡ Less
     less = less_than ys rest y.0 n t (sorted_head by_bytes y.0 (keys_of (ys ++ (n, t) ∷ rest)) s)
 
-    by : (b : Bool) → same_name n y.0 ≡ b → found n (ys ++ (n, t) ∷ rest) ≡ Some t → (if b then Some y.1 else found n (ys ++ (n, t) ∷ rest)) ≡ Some t
+    by : (b : Bool) → same_name n y.0 ≡ b → under n (ys ++ (n, t) ∷ rest) ≡ Some t → (if b then Some y.1 else under n (ys ++ (n, t) ∷ rest)) ≡ Some t
     by true e r = absurd (not_itself n (subst (λ m. by_bytes m n ≡ Less) (sym (same_name_is n y.0 e)) less))
     by false e r = r
 
-pub tag_at : (row : Row) (ys rest : Entries) (n : List ℕ) (t : Plain) → HasTag row.tag (ys ++ (n, t) ∷ rest) → IsNamed (ys ++ (n, t) ∷ rest) → belongs row n ≡ tagged → TagAt t
+pub tag_at : (row : Row) (ys rest : Entries) (n : List ℕ) (t : Plain) → HasTag row.tag (ys ++ (n, t) ∷ rest) → Ascends (ys ++ (n, t) ∷ rest) → belongs row n ≡ tagged → TagAt t
 tag_at row ys rest n t has sorted is = by row.tag has (tagged_found row n is)
   where
     text : (u : Plain) (l : List ℕ) → u ≡ plain.text l → TagAt u
@@ -105,26 +105,26 @@ tag_at row ys rest n t has sorted is = by row.tag has (tagged_found row n is)
     by : (o : Option (List ℕ)) → HasTag o (ys ++ (n, t) ∷ rest) → is_tag o n ≡ true → TagAt t
     by None h e = absurd (true≢false (sym e))
     by (Some tag) h e =
-        let here : found tag (ys ++ (n, t) ∷ rest) ≡ Some t = ap (λ m. found m (ys ++ (n, t) ∷ rest)) (sym (same_name_is n tag e)) ∙ found_here ys rest n t sorted in
+        let here : under tag (ys ++ (n, t) ∷ rest) ≡ Some t = ap (λ m. under m (ys ++ (n, t) ∷ rest)) (sym (same_name_is n tag e)) ∙ found_here ys rest n t sorted in
         let same : Some t ≡ Some (plain.text h.0) = sym here ∙ h.1 in
         text t h.0 (let is' : t ≡ plain.text h.0 = cc in is')
 
 -- the first wrong name of a map
-first_wrong : (n : List ℕ) (q : Place) (m : Wrong) → or_first (earlier n m) (Some (named n ∷ q)) ≡ under (sooner (Some (n, q)) m)
+first_wrong : (n : List ℕ) (q : Place) (m : Wrong) → or_first (earlier n m) (Some (named n ∷ q)) ≡ place_under (sooner (Some (n, q)) m)
 first_wrong n q None = refl
 first_wrong n q (Some m) = by (is_lt (by_bytes m.0 n))
   where
-    by : (b : Bool) → or_first (if b then Some m else None) (Some (named n ∷ q)) ≡ under (if b then Some m else Some (n, q))
+    by : (b : Bool) → or_first (if b then Some m else None) (Some (named n ∷ q)) ≡ place_under (if b then Some m else Some (n, q))
     by true = refl
     by false = refl
 
 pub pair_stops : (f : Family) (row : Row) (ys rest : Entries) (n : List ℕ) (t : Plain) (m : Wrong) → wrong_entry (wrong_pair f row) ys ≡ None → m ≡ earlier n (missing_in row (ys ++ (n, t) ∷ rest)) → (p : Place)
-    → under (below_name n (wrong_pair f row n t)) ≡ Some p → or_first m (under (below_name n (wrong_pair f row n t))) ≡ wrong_row f row (ys ++ (n, t) ∷ rest)
+    → place_under (below_name n (wrong_pair f row n t)) ≡ Some p → or_first m (place_under (below_name n (wrong_pair f row n t))) ≡ wrong_row f row (ys ++ (n, t) ∷ rest)
 pair_stops f row ys rest n t m before is p e = by (wrong_pair f row n t) refl e
   where
-    by : (o : Option Place) → wrong_pair f row n t ≡ o → under (below_name n o) ≡ Some p → or_first m (under (below_name n (wrong_pair f row n t))) ≡ wrong_row f row (ys ++ (n, t) ∷ rest)
+    by : (o : Option Place) → wrong_pair f row n t ≡ o → place_under (below_name n o) ≡ Some p → or_first m (place_under (below_name n (wrong_pair f row n t))) ≡ wrong_row f row (ys ++ (n, t) ∷ rest)
     by None h k = absurd cc
     by (Some q) h k =
-        (λ i. or_first (is i) (under (below_name n (h i)))) ∙ first_wrong n q (missing_in row (ys ++ (n, t) ∷ rest))
-        ∙ (λ i. under (sooner (at_name n (sym h i) (wrong_entry (wrong_pair f row) rest)) (missing_in row (ys ++ (n, t) ∷ rest))))
-        ∙ (λ i. under (sooner (sym (right_more (wrong_pair f row) ys rest n t before) i) (missing_in row (ys ++ (n, t) ∷ rest))))
+        (λ i. or_first (is i) (place_under (below_name n (h i)))) ∙ first_wrong n q (missing_in row (ys ++ (n, t) ∷ rest))
+        ∙ (λ i. place_under (sooner (at_name n (sym h i) (wrong_entry (wrong_pair f row) rest)) (missing_in row (ys ++ (n, t) ∷ rest))))
+        ∙ (λ i. place_under (sooner (sym (right_more (wrong_pair f row) ys rest n t before) i) (missing_in row (ys ++ (n, t) ∷ rest))))

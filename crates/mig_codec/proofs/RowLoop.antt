@@ -1,24 +1,23 @@
 -- The pairs of a map, read one after another.
-use Rattle.std.proofs.Common.{◌≡◌, ℕ, List, [], ◌∷◌, ◌++◌, Bool, true, false, Option, Some, None, IsTrue, MatchBool, refl, sym, ap, ap₂, ◌∙◌, subst, ◌+◌, arith}
+use Rattle.std.proofs.Common.{◌≡◌, ℕ, List, [], ◌∷◌, ◌++◌, Bool, true, false, Option, Some, None, IsTrue, MatchBool, refl, sym, ap, ◌∙◌, subst, ◌+◌, append-nil, arith}
 use Rattle.std.specs.Prelude.{if◌then◌else◌}
 use Rattle.std.specs.List.{AllByRecursion}
 use Rattle.std.specs.Map.{keys_of}
 use Rattle.std.specs.declared.cmp.Ordering.TheVariants.{Less}
 use Rattle.std.proofs.lemmas.Map.Keys.{sorted_head, sorted_tail}
-use Rattle.mig_model.specs.Names.{by_bytes, IsNamed}
+use Rattle.mig_model.specs.Names.{by_bytes, Ascends, under, same_name}
 use Rattle.std.proofs.lemmas.List.Elements.{filter-append}
 use Rattle.mig_model.specs.declared.presence.Presence.{Presence}
-use Rattle.mig_template.specs.Parts.{found_field}
 use Rattle.mig_model.specs.Plain as plain
 use Rattle.mig_model.specs.Plain.{Plain}
 use Rattle.mig_model.specs.Inhabits.{Entries}
-use Rattle.mig_model.specs.Template.{Template, Field, fields_of, same_name, is_open}
+use Rattle.mig_model.specs.Template.{Template, Field, fields_of, is_open}
 use Rattle.mig_model.specs.Family.{Family, body}
 use Rattle.mig_model.specs.Place.{Place, Wrong, at_name, unless, wrong_entry, place}
 use Rattle.mig_value.specs.Typed.{Typed, Slot, slots_of, out, out_slots, tag_pair}
 use Rattle.mig_value.specs.Nodes.{Test, nodes, sum_entries}
 use Rattle.mig_value.specs.Parts.{RecordParts}
-use Rattle.mig_value.specs.Fit.{EachSlot, Fits, FieldsFit, FitAsRead, IsAtomOf}
+use Rattle.mig_value.specs.Fit.{EachSlot, ValueFits, FieldsFit, FitAsRead, IsAtomOf}
 use Rattle.mig_value.specs.View.{typed_of, slot_of}
 use Rattle.mig_codec.specs.declared.pieces.Placed.{Placed}
 use Rattle.mig_codec.specs.declared.pieces.Placed.TheVariants as P
@@ -34,12 +33,12 @@ abbrev found_if : Bool → Presence × Template → Option (Presence × Template
 found_if b s o = if b then Some s else o
 
 -- a value of a field's template is one of the fields
-pub field_fits : (U : Typed → Type 0) (P : List ℕ → Typed → Type 0) (n : List ℕ) (fs : List Field) (q : Presence) (V : Template) (v : Typed) → found_field n fs ≡ Some (q, V) → Fits U P V v → FieldsFit U P (fields_of fs) n v
+pub field_fits : (U : Typed → Type 0) (P : List ℕ → Typed → Type 0) (n : List ℕ) (fs : List Field) (q : Presence) (V : Template) (v : Typed) → under n fs ≡ Some (q, V) → ValueFits U P V v → FieldsFit U P (fields_of fs) n v
 field_fits U P n [] q V v e s = absurd cc
 field_fits U P n (g ∷ fs) q V v e s = by (same_name n g.0) e (λ e'. field_fits U P n fs q V v e' s)
   where
-    by : (b : Bool) → found_if b g.1 (found_field n fs) ≡ Some (q, V) → (found_field n fs ≡ Some (q, V) → FieldsFit U P (fields_of fs) n v) → MatchBool b (Fits U P g.1.1 v) (FieldsFit U P (fields_of fs) n v)
-    by true e' rest = let is : g.1 ≡ (q, V) = cc in subst (λ (r : Presence × Template). Fits U P r.1 v) (sym is) s
+    by : (b : Bool) → found_if b g.1 (under n fs) ≡ Some (q, V) → (under n fs ≡ Some (q, V) → FieldsFit U P (fields_of fs) n v) → MatchBool b (ValueFits U P g.1.1 v) (FieldsFit U P (fields_of fs) n v)
+    by true e' rest = let is : g.1 ≡ (q, V) = cc in subst (λ (r : Presence × Template). ValueFits U P r.1 v) (sym is) s
     by false e' rest = rest e'
 
 -- slots, and one more
@@ -56,9 +55,9 @@ slot_nodes_more : (q : Test) (ss : List Slot) (s : Slot) → slot_nodes q (ss ++
 slot_nodes_more q [] s = omega arith
 slot_nodes_more q (r ∷ ss) s = omega (arith, slot_nodes_more q ss s)
 
-pairs_more : (h : List ℕ → Plain → ℕ) (es : Entries) (n : List ℕ) (t : Plain) → sum_entries h (es ++ (n, t) ∷ []) ≡ sum_entries h es + h n t
-pairs_more h [] n t = omega arith
-pairs_more h (e ∷ es) n t = omega (arith, pairs_more h es n t)
+pub sum_append : (h : List ℕ → Plain → ℕ) (es ds : Entries) → sum_entries h (es ++ ds) ≡ sum_entries h es + sum_entries h ds
+sum_append h [] ds = omega arith
+sum_append h (e ∷ es) ds = omega (arith, sum_append h es ds)
 
 -- pairs that are right, and one more
 pub right_more : (w : List ℕ → Plain → Option Place) (es rest : Entries) (n : List ℕ) (t : Plain) → wrong_entry w es ≡ None → wrong_entry w (es ++ (n, t) ∷ rest) ≡ at_name n (w n t) (wrong_entry w rest)
@@ -81,7 +80,7 @@ both_tags row m n = by row.tag
     by None a b = absurd cc
     by (Some tag) a b = same_name_is m tag a ∙ sym (same_name_is n tag b)
 
-pub no_tag_before : (row : Row) (es rest : Entries) (n : List ℕ) (t : Plain) → IsNamed (es ++ (n, t) ∷ rest) → belongs row n ≡ tagged → those is_tagged row es ≡ []
+pub no_tag_before : (row : Row) (es rest : Entries) (n : List ℕ) (t : Plain) → Ascends (es ++ (n, t) ∷ rest) → belongs row n ≡ tagged → those is_tagged row es ≡ []
 no_tag_before row [] rest n t s h = refl
 no_tag_before row (e ∷ es) rest n t s h = by (belongs row e.0) refl (no_tag_before row es rest n t (sorted_tail by_bytes e.0 (keys_of (es ++ (n, t) ∷ rest)) s) h)
   where
@@ -109,11 +108,7 @@ module _ (f : Family) (row : Row) (es : Entries) (p : RecordParts) (g : Gathered
   takes q b is so l e = (λ i. e i ++ single (sym (ap q is ∙ so) i) (n, t)) ∙ sym (filter-append (λ e. q (belongs row e.0)) es ((n, t) ∷ []))
 
   skips : (q : Belongs → Bool) (b : Belongs) → belongs row n ≡ b → q b ≡ false → (l : Entries) → l ≡ those q row es → l ≡ those q row more
-  skips q b is other l e = e ∙ sym (append_none (those q row es)) ∙ (λ i. those q row es ++ single (sym (ap q is ∙ other) i) (n, t)) ∙ sym (filter-append (λ e. q (belongs row e.0)) es ((n, t) ∷ []))
-    where
-      append_none : (xs : Entries) → xs ++ [] ≡ xs
-      append_none [] = refl
-      append_none (x ∷ xs) = ap (λ l. x ∷ l) (append_none xs)
+  skips q b is other l e = e ∙ sym (append-nil (those q row es)) ∙ (λ i. those q row es ++ single (sym (ap q is ∙ other) i) (n, t)) ∙ sym (filter-append (λ e. q (belongs row e.0)) es ((n, t) ∷ []))
 
   right : (b : Belongs) → belongs row n ≡ b → wrong_as f.form (place f) row.rest b t ≡ None → wrong_entry (wrong_pair f row) more ≡ None
   right b is none = right_more (wrong_pair f row) es [] n t g.right ∙ ap (λ o. at_name n o None) (ap (λ c. wrong_as f.form (place f) row.rest c t) is ∙ none)
@@ -127,14 +122,13 @@ module _ (f : Family) (row : Row) (es : Entries) (p : RecordParts) (g : Gathered
 
   -- what was counted before, and the nodes of one more value
   count_more : (q : Test) (b : Belongs) → belongs row n ≡ b → (k : ℕ) → k ≡ nodes_as f q b t → (all : ℕ) → all ≡ record_nodes q p + k → all ≡ sum_entries (pair_nodes f q row) more
-  count_more q b is k e all h =
-      h ∙ ap₂ ◌+◌ (g.counted q) (e ∙ ap (λ c. nodes_as f q c t) (sym is)) ∙ sym (pairs_more (pair_nodes f q row) es n t)
+  count_more q b is k e all h = omega (arith, h, g.counted q, e ∙ ap (λ c. nodes_as f q c t) (sym is), sum_append (pair_nodes f q row) es ((n, t) ∷ []))
 
   abbrev FieldsHere : List Field → (List ℕ → Typed → Type 0)
   FieldsHere fs = FieldsFit (IsAtomOf f.form) (FitAsRead f.form (body f)) (fields_of fs)
 
   -- one more pair that was read, where its name belongs
-  pub one_more_pair : (rest : Entries) → IsNamed (es ++ (n, t) ∷ rest) → (placed : Placed) → IsPlaced f row n t placed → Gathered f row more (added p placed)
+  pub one_more_pair : (rest : Entries) → Ascends (es ++ (n, t) ∷ rest) → (placed : Placed) → IsPlaced f row n t placed → Gathered f row more (added p placed)
   one_more_pair rest named (P.Field s) (V, is, name, read) =
       let found = common_found row n V is in
       record {

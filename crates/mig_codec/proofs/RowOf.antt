@@ -1,41 +1,37 @@
 -- The record at a map, and what is wrong in the map.
 use Rattle.std.proofs.Common.{◌≡◌, ◌⊎◌, inl, inr, ℕ, List, [], ◌∷◌, ◌++◌, Bool, true, false, Option, Some, None, refl, sym, ap, ◌∙◌, subst}
-use Rattle.std.specs.Prelude.{◌||◌, ◌&&◌, if◌then◌else◌}
+use Rattle.std.specs.Prelude.{◌||◌, ◌&&◌, is_some, if◌then◌else◌}
+use Rattle.std.proofs.lemmas.Option.{same_Some}
 use Rattle.std.specs.List.{list_any}
-use Rattle.std.specs.Map.{keys_of, lookup}
-use Rattle.std.specs.BTreeMap.{is_at}
+use Rattle.std.specs.Map.{keys_of}
 use Rattle.mig_model.specs.declared.form.Form.{Form}
-use Rattle.mig_model.specs.declared.presence.Presence.{Presence}
 use Rattle.mig_model.specs.declared.rest.Rest.{Rest}
 use Rattle.mig_model.specs.declared.rest.Rest.TheVariants.{Open}
 use Rattle.mig_model.specs.Plain as plain
 use Rattle.mig_model.specs.Plain.{Plain, pairs_of, entries}
 use Rattle.mig_model.specs.Kinds.{entries_of_pairs}
-use Rattle.mig_model.specs.Names.{by_bytes, found}
+use Rattle.mig_model.specs.Names.{under, has_twice, same_name}
 use Rattle.mig_model.specs.Inhabits.{Entries, is_text, is_some_text, has_text}
-use Rattle.mig_model.specs.Family.{Family, has_twice}
-use Rattle.mig_model.specs.Place.{Place, Wrong, sooner, under, at_name, missing, is_tagged, unless, wrong_entry, wrong_map, wrong_fields, wrong_choice, wrong_cases, place}
-use Rattle.mig_model.specs.Template.{Template, Field, fields_of, cases_of, same_name, is_open}
+use Rattle.mig_model.specs.Family.{Family}
+use Rattle.mig_model.specs.Place.{Place, Wrong, sooner, place_under, at_name, missing, is_tagged, unless, wrong_entry, wrong_map, wrong_fields, wrong_choice, wrong_cases, place}
+use Rattle.mig_model.specs.Template.{Field, fields_of, cases_of, is_open}
 use Rattle.mig_template.specs.Kept.{RecordKept}
 use Rattle.mig_template.specs.Parts as parts
-use Rattle.mig_template.specs.Parts.{RecordParts, found_field, found_case, choice_of, record_of, is_twice_named, is_twice_in, has_twice_in}
-use Rattle.mig_template.proofs.Views.{field_list_of, case_list_of}
-use Rattle.mig_laws.proofs.Reading.{find_case, wrong_field, wrong_other, wrong_if_tagged, wrong_if_not_tagged, no_literal, literal_is, literal_none, missing_case, missing_none_of, wrong_case, wrong_none_of}
+use Rattle.mig_template.specs.Parts.{RecordParts, found_case, choice_of, record_of, is_twice_named, is_twice_in, has_twice_in}
+use Rattle.mig_laws.proofs.Reading.{wrong_if_tagged, wrong_if_not_tagged, no_literal, literal_told, missing_of, missing_told, wrong_of, wrong_told}
+use Rattle.mig_laws.proofs.Named.{told_by_name, found_has}
 use Rattle.mig_codec.specs.Parted.{IsRow, HasTag, wrong_pair, wrong_row}
 use Rattle.mig_codec.specs.Reading.{IsPart, wrong_part}
 use Rattle.mig_row.specs.Row.{Row, Belongs, tagged, in_case, in_fields, unknown, wrong_as, row_of, with_choice, with_tag, with_case}
 use Rattle.mig_row.specs.RowView.{tag_place}
 use Rattle.mig_codec.proofs.PartsOf.{found_in, common_part, cased_part}
-use Rattle.mig_model.proofs.Bools.{split_or, right_or, left_or, both_false}
+use Rattle.mig_model.proofs.Bools.{split_or, first_false, second_false, right_or, left_or, both_false}
 
 -- the three ways in which there is a record at a map
 pub data RowCase (p : RecordParts) (es : Entries) (row : Row) : Type 0 where
   untagged : p.choice ≡ None → ◌≡◌ {A = Row} (record { fields = p.fields; tag = None; cased = []; rest = p.rest }) row → RowCase p es row
-  tagged_as : (c : parts.Cases) (s : List ℕ) (ds : List Field) → p.choice ≡ Some c → found c.0 es ≡ Some (plain.text s) → found_in s c.1 ≡ Some ds → ◌≡◌ {A = Row} (record { fields = p.fields; tag = Some c.0; cased = ds; rest = p.rest }) row → RowCase p es row
-  kept_as : (c : parts.Cases) (s : List ℕ) → p.choice ≡ Some c → found c.0 es ≡ Some (plain.text s) → found_in s c.1 ≡ None → c.2 ≡ true → ◌≡◌ {A = Row} (record { fields = p.fields; tag = Some c.0; cased = []; rest = Open }) row → RowCase p es row
-
-row_is : (a b : Row) → Some a ≡ Some b → a ≡ b
-row_is a b e = cc
+  tagged_as : (c : parts.Cases) (s : List ℕ) (ds : List Field) → p.choice ≡ Some c → under c.0 es ≡ Some (plain.text s) → found_in s c.1 ≡ Some ds → ◌≡◌ {A = Row} (record { fields = p.fields; tag = Some c.0; cased = ds; rest = p.rest }) row → RowCase p es row
+  kept_as : (c : parts.Cases) (s : List ℕ) → p.choice ≡ Some c → under c.0 es ≡ Some (plain.text s) → found_in s c.1 ≡ None → c.2 ≡ true → ◌≡◌ {A = Row} (record { fields = p.fields; tag = Some c.0; cased = []; rest = Open }) row → RowCase p es row
 
 tag_text : (p : RecordParts) (tag : List ℕ) (kept : Bool) (o : Option Plain) (row : Row) → with_tag p tag kept o ≡ Some row → (s : List ℕ) × (o ≡ Some (plain.text s)) × (with_case p tag kept (found_case s p.choice) ≡ Some row)
 tag_text p tag kept (Some (plain.text s)) row e = (s, refl, e)
@@ -49,17 +45,17 @@ abbrev TagKept : RecordParts → List ℕ → Bool → Option (List Field) → R
 TagKept p tag kept o row = (o ≡ None) × (kept ≡ true) × ◌≡◌ {A = Row} (record { fields = p.fields; tag = Some tag; cased = []; rest = Open }) row
 
 case_there : (p : RecordParts) (tag : List ℕ) (kept : Bool) (o : Option (List Field)) (row : Row) → with_case p tag kept o ≡ Some row → CaseThere p tag o row ⊎ TagKept p tag kept o row
-case_there p tag kept (Some ds) row e = inl (ds, refl, row_is _ row e)
-case_there p tag true None row e = inr (refl, refl, row_is _ row e)
+case_there p tag kept (Some ds) row e = inl (ds, refl, same_Some _ row e)
+case_there p tag true None row e = inr (refl, refl, same_Some _ row e)
 case_there p tag false None row e = absurd cc
 
 pub row_case : (p : RecordParts) (es : Entries) (row : Row) → row_of p es ≡ Some row → RowCase p es row
 row_case p es row = by p.choice refl
   where
     by : (o : Option parts.Cases) → p.choice ≡ o → with_choice p o es ≡ Some row → RowCase p es row
-    by None is e = untagged is (row_is _ row e)
+    by None is e = untagged is (same_Some _ row e)
     by (Some c) is e =
-        let text = tag_text p c.0 c.2 (found c.0 es) row e in
+        let text = tag_text p c.0 c.2 (under c.0 es) row e in
         elim (case_there p c.0 c.2 (found_case text.0 p.choice) row text.2) [
           | inl there ↦ tagged_as c text.0 there.0 is text.1 (ap (found_case text.0) (sym is) ∙ there.1) there.2
           | inr none ↦ kept_as c text.0 is text.1 (ap (found_case text.0) (sym is) ∙ none.0) none.1 none.2
@@ -71,19 +67,11 @@ row_has_tag p es row (untagged none is) = subst (λ (r : Row). HasTag r.tag es) 
 row_has_tag p es row (tagged_as c s ds there text case' is) = subst (λ (r : Row). HasTag r.tag es) is (s, text)
 row_has_tag p es row (kept_as c s there text none kept is) = subst (λ (r : Row). HasTag r.tag es) is (s, text)
 
-abbrev case_if : Bool → List Field → Option (List Field) → Option (List Field)
-case_if b fs o = if b then Some fs else o
-
 no_twice_in : (others : List (List ℕ)) (s : List ℕ) (cs : List parts.Case) (ds : List Field) → found_in s cs ≡ Some ds → list_any (has_twice_in others) cs ≡ false → has_twice (keys_of ds ++ others) ≡ false
-no_twice_in others s [] ds e h = absurd cc
-no_twice_in others s (x ∷ cs) ds e h = by (same_name s x.0) e (split_or (has_twice_in others x) (list_any (has_twice_in others) cs) h) (no_twice_in others s cs ds)
-  where
-    by : (b : Bool) → case_if b x.1 (found_in s cs) ≡ Some ds → (has_twice_in others x ≡ false) × (list_any (has_twice_in others) cs ≡ false) → (found_in s cs ≡ Some ds → list_any (has_twice_in others) cs ≡ false → has_twice (keys_of ds ++ others) ≡ false) → has_twice (keys_of ds ++ others) ≡ false
-    by true k both rest = let is : x.1 ≡ ds = cc in subst (λ fs. has_twice (keys_of fs ++ others) ≡ false) is both.0
-    by false k both rest = rest k both.1
-
-abbrev IsRowOf : Family → List Field → Option (List ℕ) → List Field → Rest → Type 0
-IsRowOf f fs tag ds r = IsRow f (record { fields = fs; tag = tag; cased = ds; rest = r })
+no_twice_in others s =
+    found_has s (λ cs ds. list_any (has_twice_in others) cs ≡ false → has_twice (keys_of ds ++ others) ≡ false)
+    (λ c cs h. first_false (has_twice_in others c) (list_any (has_twice_in others) cs) h)
+    (λ c cs ds rest h. rest (second_false (has_twice_in others c) (list_any (has_twice_in others) cs) h))
 
 pub row_is_row : (f : Family) (p : RecordParts) (es : Entries) (row : Row) → IsPart f (record_of p) → RecordKept p → RowCase p es row → IsRow f row
 row_is_row f p es row part kept (untagged none is) =
@@ -113,34 +101,17 @@ sooner_last : (a : Wrong) → sooner a None ≡ a
 sooner_last None = refl
 sooner_last (Some a) = refl
 
-abbrev in_list : List ℕ → List Field → Option (Presence × Template)
-in_list n fs = lookup (is_at (by_bytes n)) fs
-
 module _ (form : Form) (w : List ℕ → Plain → Option Place) (r : Rest) (n : List ℕ) (t : Plain) where
   -- a name among fields, or elsewhere
-  among : (fs : List Field) (b : Belongs) (other : List ℕ → Plain → Option Place) → other n t ≡ wrong_as form w r b t → wrong_fields form w (fields_of fs) other n t ≡ wrong_as form w r (in_fields (found_field n fs) b) t
-  among fs b other h = by (found_field n fs) refl
-    where
-      by : (o : Option (Presence × Template)) → found_field n fs ≡ o → wrong_fields form w (fields_of fs) other n t ≡ wrong_as form w r (in_fields o b) t
-      by None e = wrong_other form w (fields_of fs) n (ap (in_list n) (field_list_of fs) ∙ e) other t ∙ h
-      by (Some s) e = wrong_field form w (fields_of fs) n s (ap (in_list n) (field_list_of fs) ∙ e) other t
+  among : (fs : List Field) (b : Belongs) (other : List ℕ → Plain → Option Place) → other n t ≡ wrong_as form w r b t → wrong_fields form w (fields_of fs) other n t ≡ wrong_as form w r (in_fields (under n fs) b) t
+  among fs b other h = told_by_name n (λ o. wrong_as form w r (in_fields o b) t) (λ gs. wrong_fields form w (fields_of gs) other n t) h (λ e es. refl) fs
 
-  in_cases : (ds : List Field) → wrong_fields form w (fields_of ds) (λ m u. unless (is_open r)) n t ≡ wrong_as form w r (in_case (found_field n ds)) t
-  in_cases ds = by (found_field n ds) refl
-    where
-      by : (o : Option (Presence × Template)) → found_field n ds ≡ o → wrong_fields form w (fields_of ds) (λ m u. unless (is_open r)) n t ≡ wrong_as form w r (in_case o) t
-      by None e = wrong_other form w (fields_of ds) n (ap (in_list n) (field_list_of ds) ∙ e) (λ m u. unless (is_open r)) t
-      by (Some s) e = wrong_field form w (fields_of ds) n s (ap (in_list n) (field_list_of ds) ∙ e) (λ m u. unless (is_open r)) t
+  in_cases : (ds : List Field) → wrong_fields form w (fields_of ds) (λ m u. unless (is_open r)) n t ≡ wrong_as form w r (in_case (under n ds)) t
+  in_cases = told_by_name n (λ o. wrong_as form w r (in_case o) t) (λ gs. wrong_fields form w (fields_of gs) (λ m u. unless (is_open r)) n t) refl (λ e es. refl)
 
   at_tag : (tag : List ℕ) (b : Bool) (x : Option Place) (c : Belongs) → x ≡ wrong_as form w r c t → (if b then None else x) ≡ wrong_as form w r (if b then tagged else c) t
   at_tag tag true x c h = refl
   at_tag tag false x c h = h
-
-pub found_case_of : (s : List ℕ) (cs : List parts.Case) (ds : List Field) → found_in s cs ≡ Some ds → find_case s (cases_of cs) ≡ Some ds
-found_case_of s cs ds e = ap (λ l. lookup (is_at (by_bytes s)) l) (case_list_of cs) ∙ e
-
-pub no_case_of : (s : List ℕ) (cs : List parts.Case) → found_in s cs ≡ None → find_case s (cases_of cs) ≡ None
-no_case_of s cs e = ap (λ l. lookup (is_at (by_bytes s)) l) (case_list_of cs) ∙ e
 
 abbrev wrong_pairs : Family → RecordParts → Entries → Option Place
 wrong_pairs f p es =
@@ -156,35 +127,33 @@ module _ (f : Family) (p : RecordParts) (es : Entries) where
       let each : wrong_entry (wrong_choice f.form (place f) (choice_of None) (wrong_fields f.form (place f) (fields_of p.fields)) p.rest es) es ≡ wrong_entry (wrong_pair f (record { fields = p.fields; tag = None; cased = []; rest = p.rest })) es =
       wrong_same (wrong_choice f.form (place f) (choice_of None) (wrong_fields f.form (place f) (fields_of p.fields)) p.rest es) (wrong_pair f (record { fields = p.fields; tag = None; cased = []; rest = p.rest }))
       (λ n t. among f.form (place f) p.rest n t p.fields unknown (λ m u. unless (is_open p.rest)) refl) es in
-      λ i. under (sooner (each i) (sym (sooner_last (missing (fields_of p.fields) es)) i))
+      λ i. place_under (sooner (each i) (sym (sooner_last (missing (fields_of p.fields) es)) i))
 
   -- the pairs of a map whose tag is a text
   tagged_pairs : (c : parts.Cases) (ds : List Field) (r : Rest)
-      → ((n : List ℕ) (t : Plain) → wrong_fields f.form (place f) (fields_of p.fields) (wrong_cases f.form (place f) c.0 (cases_of c.1) p.rest es) n t ≡ wrong_as f.form (place f) r (in_fields (found_field n p.fields) (in_case (found_field n ds))) t)
+      → ((n : List ℕ) (t : Plain) → wrong_fields f.form (place f) (fields_of p.fields) (wrong_cases f.form (place f) c.0 (cases_of c.1) p.rest es) n t ≡ wrong_as f.form (place f) r (in_fields (under n p.fields) (in_case (under n ds))) t)
       → wrong_entry (wrong_choice f.form (place f) (choice_of (Some c)) (wrong_fields f.form (place f) (fields_of p.fields)) p.rest es) es ≡ wrong_entry (wrong_pair f (record { fields = p.fields; tag = Some c.0; cased = ds; rest = r })) es
   tagged_pairs c ds r each =
       wrong_same (wrong_choice f.form (place f) (choice_of (Some c)) (wrong_fields f.form (place f) (fields_of p.fields)) p.rest es) (wrong_pair f (record { fields = p.fields; tag = Some c.0; cased = ds; rest = r }))
-      (λ n t. at_tag f.form (place f) r n t c.0 (same_name n c.0) (wrong_fields f.form (place f) (fields_of p.fields) (wrong_cases f.form (place f) c.0 (cases_of c.1) p.rest es) n t) (in_fields (found_field n p.fields) (in_case (found_field n ds)))
+      (λ n t. at_tag f.form (place f) r n t c.0 (same_name n c.0) (wrong_fields f.form (place f) (fields_of p.fields) (wrong_cases f.form (place f) c.0 (cases_of c.1) p.rest es) n t) (in_fields (under n p.fields) (in_case (under n ds)))
       (each n t)) es
 
-  in_tagged : (c : parts.Cases) (s : List ℕ) (ds : List Field) → found c.0 es ≡ Some (plain.text s) → found_in s c.1 ≡ Some ds → with_choice_of f p (Some c) es ≡ wrong_row f (record { fields = p.fields; tag = Some c.0; cased = ds; rest = p.rest }) es
+  in_tagged : (c : parts.Cases) (s : List ℕ) (ds : List Field) → under c.0 es ≡ Some (plain.text s) → found_in s c.1 ≡ Some ds → with_choice_of f p (Some c) es ≡ wrong_row f (record { fields = p.fields; tag = Some c.0; cased = ds; rest = p.rest }) es
   in_tagged c s ds text e =
-      let there = found_case_of s c.1 ds e in
       let each = tagged_pairs c ds p.rest
-      (λ n t. among f.form (place f) p.rest n t p.fields (in_case (found_field n ds)) (wrong_cases f.form (place f) c.0 (cases_of c.1) p.rest es) (wrong_case c.0 s es text f.form (place f) p.rest (cases_of c.1) ds there n t ∙ in_cases f.form (place f) p.rest n t ds)) in
-      wrong_if_tagged (fields_of p.fields) c.0 (cases_of c.1) c.2 es _ (left_or _ _ (literal_is c.0 s es text (cases_of c.1) ds there))
-      ∙ (λ i. under (sooner (each i) (sooner (missing (fields_of p.fields) es) (missing_case c.0 s es text (cases_of c.1) ds there i))))
+      (λ n t. among f.form (place f) p.rest n t p.fields (in_case (under n ds)) (wrong_cases f.form (place f) c.0 (cases_of c.1) p.rest es) (wrong_told c.0 s es text f.form (place f) p.rest n t c.1 ∙ ap (wrong_of c.0 s es text f.form (place f) p.rest n t) e ∙ in_cases f.form (place f) p.rest n t ds)) in
+      wrong_if_tagged (fields_of p.fields) c.0 (cases_of c.1) c.2 es _ (left_or _ _ (literal_told c.0 s es text c.1 ∙ ap is_some e))
+      ∙ (λ i. place_under (sooner (each i) (sooner (missing (fields_of p.fields) es) ((missing_told c.0 s es text c.1 ∙ ap (missing_of c.0 s es text) e) i))))
 
   -- where the tag is kept, other names are right
-  in_kept : (c : parts.Cases) (s : List ℕ) → found c.0 es ≡ Some (plain.text s) → found_in s c.1 ≡ None → c.2 ≡ true → with_choice_of f p (Some c) es ≡ wrong_row f (record { fields = p.fields; tag = Some c.0; cased = []; rest = Open }) es
+  in_kept : (c : parts.Cases) (s : List ℕ) → under c.0 es ≡ Some (plain.text s) → found_in s c.1 ≡ None → c.2 ≡ true → with_choice_of f p (Some c) es ≡ wrong_row f (record { fields = p.fields; tag = Some c.0; cased = []; rest = Open }) es
   in_kept c s text e kept =
-      let none = no_case_of s c.1 e in
       let each = tagged_pairs c [] Open
-      (λ n t. among f.form (place f) Open n t p.fields unknown (wrong_cases f.form (place f) c.0 (cases_of c.1) p.rest es) (wrong_none_of c.0 s es text f.form (place f) p.rest (cases_of c.1) none n t)) in
+      (λ n t. among f.form (place f) Open n t p.fields unknown (wrong_cases f.form (place f) c.0 (cases_of c.1) p.rest es) (wrong_told c.0 s es text f.form (place f) p.rest n t c.1 ∙ ap (wrong_of c.0 s es text f.form (place f) p.rest n t) e)) in
       wrong_if_tagged (fields_of p.fields) c.0 (cases_of c.1) c.2 es _ (right_or _ _ (kept_text c.0 s c.2 text kept))
-      ∙ (λ i. under (sooner (each i) (sooner (missing (fields_of p.fields) es) (missing_none_of c.0 s es text (cases_of c.1) none i))))
+      ∙ (λ i. place_under (sooner (each i) (sooner (missing (fields_of p.fields) es) ((missing_told c.0 s es text c.1 ∙ ap (missing_of c.0 s es text) e) i))))
     where
-      kept_text : (tag l : List ℕ) (b : Bool) → found tag es ≡ Some (plain.text l) → b ≡ true → (b && has_text tag es) ≡ true
+      kept_text : (tag l : List ℕ) (b : Bool) → under tag es ≡ Some (plain.text l) → b ≡ true → (b && has_text tag es) ≡ true
       kept_text tag l b is k = λ i. k i && is_some_text (is i)
 
   pub wrong_as_row : (row : Row) → RowCase p es row → wrong_part f (record_of p) (plain.map (pairs_of es)) ≡ wrong_row f row es
@@ -193,10 +162,10 @@ module _ (f : Family) (p : RecordParts) (es : Entries) where
   wrong_as_row row (kept_as c s there text none kept is) = ap (wrong_pairs f p) (entries_of_pairs es) ∙ ap (λ o. with_choice_of f p o es) there ∙ in_kept c s text none kept ∙ ap (λ r. wrong_row f r es) is
 
   -- where the tag is no literal, nor another text that is kept
-  no_text : (c : parts.Cases) (o : Option Plain) → found c.0 es ≡ o → p.choice ≡ Some c → with_tag p c.0 c.2 o ≡ None → is_tagged c.0 (cases_of c.1) c.2 es ≡ false
+  no_text : (c : parts.Cases) (o : Option Plain) → under c.0 es ≡ o → p.choice ≡ Some c → with_tag p c.0 c.2 o ≡ None → is_tagged c.0 (cases_of c.1) c.2 es ≡ false
   no_text c (Some (plain.text s)) h is e =
       let none = no_case c.2 (found_case s p.choice) e in
-      both_false _ _ (literal_none c.0 s es h (cases_of c.1) (no_case_of s c.1 (sym (ap (found_case s) is) ∙ none.0))) (ap (λ b. b && has_text c.0 es) none.1)
+      both_false _ _ (literal_told c.0 s es h c.1 ∙ ap is_some (sym (ap (found_case s) is) ∙ none.0)) (ap (λ b. b && has_text c.0 es) none.1)
     where
       no_case : (kept : Bool) (o : Option (List Field)) → with_case p c.0 kept o ≡ None → (o ≡ None) × (kept ≡ false)
       no_case kept (Some ds) k = absurd cc
@@ -213,4 +182,4 @@ module _ (f : Family) (p : RecordParts) (es : Entries) where
     where
       by : (o : Option parts.Cases) → p.choice ≡ o → with_choice p o es ≡ None → wrong_pairs f p es ≡ tag_place p.choice
       by None is k = absurd cc
-      by (Some c) is k = ap (λ o. with_choice_of f p o es) is ∙ wrong_if_not_tagged (fields_of p.fields) c.0 (cases_of c.1) c.2 es _ (no_text c (found c.0 es) refl is k) ∙ ap tag_place (sym is)
+      by (Some c) is k = ap (λ o. with_choice_of f p o es) is ∙ wrong_if_not_tagged (fields_of p.fields) c.0 (cases_of c.1) c.2 es _ (no_text c (under c.0 es) refl is k) ∙ ap tag_place (sym is)

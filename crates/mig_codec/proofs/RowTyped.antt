@@ -6,14 +6,13 @@ use Rattle.std.specs.BTreeMap.{is_at}
 use Rattle.mig_model.specs.declared.rest.Rest.{Rest}
 use Rattle.mig_model.specs.declared.rest.Rest.TheVariants.{Open}
 use Rattle.mig_model.specs.Plain as plain
-use Rattle.mig_model.specs.Plain.{Plain}
-use Rattle.mig_model.specs.Names.{by_bytes, found}
+use Rattle.mig_model.specs.Names.{by_bytes, under, same_name}
 use Rattle.mig_model.specs.Inhabits.{Entries, has_musts}
 use Rattle.mig_model.specs.Family.{Family, body}
 use Rattle.mig_model.specs.Fields.{is_field}
-use Rattle.mig_model.specs.Template.{Field, fields_of, choice, cases_of, same_name, is_open, no_field, no_choice}
+use Rattle.mig_model.specs.Template.{Field, fields_of, choice, cases_of, is_open, no_field, no_choice}
 use Rattle.mig_template.specs.Parts as parts
-use Rattle.mig_template.specs.Parts.{RecordParts, found_field, choice_of}
+use Rattle.mig_template.specs.Parts.{RecordParts, choice_of}
 use Rattle.mig_template.proofs.Views.{field_list_of}
 use Rattle.mig_value.specs.Typed.{Typed, Tag, Slots, no_slot, slot, slots_of, out_slots, tag_pair}
 use Rattle.mig_value.specs.Parts as values
@@ -22,109 +21,59 @@ use Rattle.mig_codec.specs.Parted.{IsRowRead, is_tagged}
 use Rattle.mig_codec.specs.Reading.{IsTyped}
 use Rattle.mig_row.specs.Row.{Row, Belongs, tagged, unknown, belongs, is_tag, in_case, in_fields}
 use Rattle.mig_row.proofs.Belonging.{unknown_found, tagged_found}
+use Rattle.mig_laws.proofs.Named.{told_by_name, or_if}
 use Rattle.mig_codec.proofs.Gathered.{those}
-use Rattle.mig_codec.proofs.PartsOf.{found_in, case_if}
+use Rattle.mig_codec.proofs.PartsOf.{found_in}
 use Rattle.mig_codec.proofs.RowEnd.{found_those}
 use Rattle.mig_codec.proofs.RowOf.{RowCase, untagged, tagged_as, kept_as}
-use Rattle.mig_model.proofs.Bools.{both_true, both_false}
+use Rattle.mig_model.proofs.Bools.{both_true, both_false, left_or, right_or}
 use Rattle.mig_model.proofs.SameNames.{same_name_is, same_name_itself}
 use Rattle.mig_value.proofs.Views.{weaker_slots}
 
--- a case that is found
-pub literal_there : (s : List ℕ) (cs : List parts.Case) (ds : List Field) → found_in s cs ≡ Some ds → has_literal s (cases_of cs) ≡ true
-literal_there s [] ds e = absurd cc
-literal_there s (c ∷ cs) ds e = by (same_name s c.0) e (literal_there s cs ds)
-  where
-    by : (b : Bool) → case_if b c.1 (found_in s cs) ≡ Some ds → (found_in s cs ≡ Some ds → has_literal s (cases_of cs) ≡ true) → (b || has_literal s (cases_of cs)) ≡ true
-    by true k rest = refl
-    by false k rest = rest k
+-- what is asked of the cases is told by the case that is found
+literal_known : (s : List ℕ) (cs : List parts.Case) → has_literal s (cases_of cs) ≡ is_some (found_in s cs)
+literal_known s = told_by_name s is_some (λ cs. has_literal s (cases_of cs)) refl (λ c cs. or_if (same_name s c.0) (has_literal s (cases_of cs)))
 
-case_musts : (s : List ℕ) (cs : List parts.Case) (ds : List Field) (es : Entries) → found_in s cs ≡ Some ds → has_case_musts s (cases_of cs) es ≡ has_musts (fields_of ds) es
-case_musts s [] ds es e = absurd cc
-case_musts s (c ∷ cs) ds es e = by (same_name s c.0) e (case_musts s cs ds es)
-  where
-    by : (b : Bool) → case_if b c.1 (found_in s cs) ≡ Some ds → (found_in s cs ≡ Some ds → has_case_musts s (cases_of cs) es ≡ has_musts (fields_of ds) es) → (if b then has_musts (fields_of c.1) es else has_case_musts s (cases_of cs) es) ≡ has_musts (fields_of ds) es
-    by true k rest = let is : c.1 ≡ ds = cc in ap (λ fs. has_musts (fields_of fs) es) is
-    by false k rest = rest k
+abbrev musts_of : Entries → Option (List Field) → Bool
+musts_of es None = true
+musts_of es (Some ds) = has_musts (fields_of ds) es
 
-case_field : (n s : List ℕ) (cs : List parts.Case) (ds : List Field) → found_in s cs ≡ Some ds → is_field_of_case n s (cases_of cs) ≡ is_field n (fields_of ds)
-case_field n s [] ds e = absurd cc
-case_field n s (c ∷ cs) ds e = by (same_name s c.0) e (case_field n s cs ds)
-  where
-    by : (b : Bool) → case_if b c.1 (found_in s cs) ≡ Some ds → (found_in s cs ≡ Some ds → is_field_of_case n s (cases_of cs) ≡ is_field n (fields_of ds)) → (if b then is_field n (fields_of c.1) else is_field_of_case n s (cases_of cs)) ≡ is_field n (fields_of ds)
-    by true k rest = let is : c.1 ≡ ds = cc in ap (λ fs. is_field n (fields_of fs)) is
-    by false k rest = rest k
+musts_known : (s : List ℕ) (es : Entries) (cs : List parts.Case) → has_case_musts s (cases_of cs) es ≡ musts_of es (found_in s cs)
+musts_known s es = told_by_name s (musts_of es) (λ cs. has_case_musts s (cases_of cs) es) refl (λ c cs. refl)
 
--- a case that isn't there
-no_literal_there : (s : List ℕ) (cs : List parts.Case) → found_in s cs ≡ None → has_literal s (cases_of cs) ≡ false
-no_literal_there s [] e = refl
-no_literal_there s (c ∷ cs) e = by (same_name s c.0) e (no_literal_there s cs)
-  where
-    by : (b : Bool) → case_if b c.1 (found_in s cs) ≡ None → (found_in s cs ≡ None → has_literal s (cases_of cs) ≡ false) → (b || has_literal s (cases_of cs)) ≡ false
-    by true k rest = absurd cc
-    by false k rest = rest k
+abbrev field_of : List ℕ → Option (List Field) → Bool
+field_of n None = false
+field_of n (Some ds) = is_field n (fields_of ds)
 
-no_musts : (s : List ℕ) (cs : List parts.Case) (es : Entries) → found_in s cs ≡ None → has_case_musts s (cases_of cs) es ≡ true
-no_musts s [] es e = refl
-no_musts s (c ∷ cs) es e = by (same_name s c.0) e (no_musts s cs es)
-  where
-    by : (b : Bool) → case_if b c.1 (found_in s cs) ≡ None → (found_in s cs ≡ None → has_case_musts s (cases_of cs) es ≡ true) → (if b then has_musts (fields_of c.1) es else has_case_musts s (cases_of cs) es) ≡ true
-    by true k rest = absurd cc
-    by false k rest = rest k
-
-no_case_field : (n s : List ℕ) (cs : List parts.Case) → found_in s cs ≡ None → is_field_of_case n s (cases_of cs) ≡ false
-no_case_field n s [] e = refl
-no_case_field n s (c ∷ cs) e = by (same_name s c.0) e (no_case_field n s cs)
-  where
-    by : (b : Bool) → case_if b c.1 (found_in s cs) ≡ None → (found_in s cs ≡ None → is_field_of_case n s (cases_of cs) ≡ false) → (if b then is_field n (fields_of c.1) else is_field_of_case n s (cases_of cs)) ≡ false
-    by true k rest = absurd cc
-    by false k rest = rest k
+case_field : (n s : List ℕ) (cs : List parts.Case) → is_field_of_case n s (cases_of cs) ≡ field_of n (found_in s cs)
+case_field n s = told_by_name s (field_of n) (λ cs. is_field_of_case n s (cases_of cs)) refl (λ c cs. refl)
 
 cases_fit : (U : Typed → Type 0) (P : List ℕ → Typed → Type 0) (s : List ℕ) (cs : List parts.Case) (ds : List Field) → found_in s cs ≡ Some ds → (n : List ℕ) (v : Typed) → FieldsFit U P (fields_of ds) n v → CasesFit U P s (cases_of cs) n v
 cases_fit U P s [] ds e n v h = absurd cc
 cases_fit U P s (c ∷ cs) ds e n v h = by (same_name s c.0) e (λ k. cases_fit U P s cs ds k n v h)
   where
-    by : (b : Bool) → case_if b c.1 (found_in s cs) ≡ Some ds → (found_in s cs ≡ Some ds → CasesFit U P s (cases_of cs) n v) → MatchBool b (FieldsFit U P (fields_of c.1) n v) (CasesFit U P s (cases_of cs) n v)
+    by : (b : Bool) → (if b then Some c.1 else found_in s cs) ≡ Some ds → (found_in s cs ≡ Some ds → CasesFit U P s (cases_of cs) n v) → MatchBool b (FieldsFit U P (fields_of c.1) n v) (CasesFit U P s (cases_of cs) n v)
     by true k rest = let is : c.1 ≡ ds = cc in subst (λ fs. FieldsFit U P (fields_of fs) n v) (sym is) h
     by false k rest = rest k
 
-field_known : (n : List ℕ) (fs : List Field) → is_field n (fields_of fs) ≡ is_some (found_field n fs)
+field_known : (n : List ℕ) (fs : List Field) → is_field n (fields_of fs) ≡ is_some (under n fs)
 field_known n fs = ap (λ l. is_some (lookup (is_at (by_bytes n)) l)) (field_list_of fs)
-
-true_is : (b : Bool) → b ≡ true → IsTrue b
-true_is true e = refl
-true_is false e = absurd (true≢false (sym e))
-
-and_true : (a b : Bool) → a ≡ true → IsTrue (a && true)
-and_true true b e = refl
-and_true false b e = absurd (true≢false (sym e))
-
-or_true : (a b : Bool) → IsTrue a → IsTrue (a || b)
-or_true true b e = refl
-or_true false b e = absurd cc
-
-last_true : (a b : Bool) → IsTrue b → IsTrue (a || b)
-last_true true b e = refl
-last_true false b e = e
-
-abbrev text_at : List ℕ → List ℕ → Option Plain → Option Plain → Option Plain
-text_at tag m o u = if same_name tag m then o else u
 
 abbrev some_tag : List ℕ → List ℕ → Option Tag
 some_tag m l = Some (m, l)
 
 -- the tag of the value is the one in the map
-tag_is : (row : Row) (es : Entries) (t : Option Tag) (tag s : List ℕ) → row.tag ≡ Some tag → tag_pair t ≡ those is_tagged row es → found tag es ≡ Some (plain.text s) → t ≡ some_tag tag s
-tag_is row es t tag s is pair text = by t (ap (found tag) pair ∙ found_those is_tagged row es tag (ap is_tagged here) ∙ text)
+tag_is : (row : Row) (es : Entries) (t : Option Tag) (tag s : List ℕ) → row.tag ≡ Some tag → tag_pair t ≡ those is_tagged row es → under tag es ≡ Some (plain.text s) → t ≡ some_tag tag s
+tag_is row es t tag s is pair text = by t (ap (under tag) pair ∙ found_those is_tagged row es tag (ap is_tagged here) ∙ text)
   where
     here : belongs row tag ≡ tagged
-    here = (λ i. if is_tag (is i) tag then tagged else in_fields (found_field tag row.fields) (in_case (found_field tag row.cased))) ∙ (λ i. if same_name_itself tag i then tagged else in_fields (found_field tag row.fields) (in_case (found_field tag row.cased)))
+    here = (λ i. if is_tag (is i) tag then tagged else in_fields (under tag row.fields) (in_case (under tag row.cased))) ∙ (λ i. if same_name_itself tag i then tagged else in_fields (under tag row.fields) (in_case (under tag row.cased)))
 
     same : (m l : List ℕ) (b : Bool) → same_name tag m ≡ b → (if b then Some (plain.text l) else None) ≡ Some (plain.text s) → some_tag m l ≡ some_tag tag s
     same m l true e k = let texts : plain.text l ≡ plain.text s = cc in let is' : l ≡ s = cc in λ i. some_tag (sym (same_name_is tag m e) i) (is' i)
     same m l false e k = absurd cc
 
-    by : (t : Option Tag) → found tag (tag_pair t) ≡ Some (plain.text s) → t ≡ some_tag tag s
+    by : (t : Option Tag) → under tag (tag_pair t) ≡ Some (plain.text s) → t ≡ some_tag tag s
     by None k = absurd cc
     by (Some g) k = same g.0 g.1 (same_name tag g.0) refl k
 
@@ -155,11 +104,11 @@ module _ (f : Family) (p : RecordParts) (es : Entries) (r : values.RecordParts) 
   in_untagged : IsRowRead f (record { fields = p.fields; tag = None; cased = []; rest = p.rest }) es r → RecordFits None None
   in_untagged read = (
     tt,
-    and_true (has_musts (fields_of p.fields) (out_slots (slots_of r.fields))) true read.field_musts,
+    both_true (has_musts (fields_of p.fields) (out_slots (slots_of r.fields))) true read.field_musts refl,
     read.fields,
     weaker_slots (FieldsFit U P no_field) (ChoiceFits U P no_choice None) (λ n v h. absurd h) (slots_of r.cased) read.cased,
     weaker_slots _ (IsUnknown U (fields_of p.fields) no_choice None p.rest)
-        (λ n v h. let out' = unknown_found row n h.0 in (both_false (is_field n (fields_of p.fields)) false (field_known n p.fields ∙ ap is_some out'.fields) refl, or_true (is_open p.rest) false h.1, h.2))
+        (λ n v h. let out' = unknown_found row n h.0 in (both_false (is_field n (fields_of p.fields)) false (field_known n p.fields ∙ ap is_some out'.fields) refl, left_or (is_open p.rest) false h.1, h.2))
         (slots_of r.rest) read.rest,
   )
     where
@@ -176,25 +125,25 @@ module _ (f : Family) (p : RecordParts) (es : Entries) (r : values.RecordParts) 
 
   in_tagged : (c : parts.Cases) (s : List ℕ) (ds : List Field) → found_in s c.1 ≡ Some ds → IsRowRead f (record { fields = p.fields; tag = Some c.0; cased = ds; rest = p.rest }) es r → RecordFits (Some c) (Some (c.0, s))
   in_tagged c s ds e read = (
-    (refl, or_true (has_literal s (cases_of c.1)) c.2 (literal_there s c.1 ds e)),
-    true_is (has_musts (fields_of p.fields) (out_slots (slots_of r.fields)) && has_case_musts s (cases_of c.1) (out_slots (slots_of r.cased)))
-        (both_true (has_musts (fields_of p.fields) (out_slots (slots_of r.fields))) (has_case_musts s (cases_of c.1) (out_slots (slots_of r.cased))) read.field_musts (case_musts s c.1 ds (out_slots (slots_of r.cased)) e ∙ read.cased_musts)),
+    (refl, left_or (has_literal s (cases_of c.1)) c.2 (literal_known s c.1 ∙ ap is_some e)),
+    both_true (has_musts (fields_of p.fields) (out_slots (slots_of r.fields))) (has_case_musts s (cases_of c.1) (out_slots (slots_of r.cased))) read.field_musts
+        (musts_known s (out_slots (slots_of r.cased)) c.1 ∙ ap (musts_of (out_slots (slots_of r.cased))) e ∙ read.cased_musts),
     read.fields,
     weaker_slots (FieldsFit U P (fields_of ds)) (CasesFit U P s (cases_of c.1)) (cases_fit U P s c.1 ds e) (slots_of r.cased) read.cased,
     weaker_slots _ (IsUnknown U (fields_of p.fields) (choice c.0 (cases_of c.1) c.2) (Some (c.0, s)) p.rest)
-        (λ n v h. (unknown_beside c s ds p.rest (λ m. case_field m s c.1 ds e) n h.0, or_true (is_open p.rest) (not (has_literal s (cases_of c.1))) h.1, h.2))
+        (λ n v h. (unknown_beside c s ds p.rest (λ m. case_field m s c.1 ∙ ap (field_of m) e) n h.0, left_or (is_open p.rest) (not (has_literal s (cases_of c.1))) h.1, h.2))
         (slots_of r.rest) read.rest,
   )
 
   in_kept : (c : parts.Cases) (s : List ℕ) → found_in s c.1 ≡ None → c.2 ≡ true → IsRowRead f (record { fields = p.fields; tag = Some c.0; cased = []; rest = Open }) es r → RecordFits (Some c) (Some (c.0, s))
   in_kept c s e kept read = (
-    (refl, last_true (has_literal s (cases_of c.1)) c.2 kept),
-    true_is (has_musts (fields_of p.fields) (out_slots (slots_of r.fields)) && has_case_musts s (cases_of c.1) (out_slots (slots_of r.cased)))
-        (both_true (has_musts (fields_of p.fields) (out_slots (slots_of r.fields))) (has_case_musts s (cases_of c.1) (out_slots (slots_of r.cased))) read.field_musts (no_musts s c.1 (out_slots (slots_of r.cased)) e)),
+    (refl, right_or (has_literal s (cases_of c.1)) c.2 kept),
+    both_true (has_musts (fields_of p.fields) (out_slots (slots_of r.fields))) (has_case_musts s (cases_of c.1) (out_slots (slots_of r.cased))) read.field_musts
+        (musts_known s (out_slots (slots_of r.cased)) c.1 ∙ ap (musts_of (out_slots (slots_of r.cased))) e),
     read.fields,
     weaker_slots (FieldsFit U P no_field) (CasesFit U P s (cases_of c.1)) (λ n v h. absurd h) (slots_of r.cased) read.cased,
     weaker_slots _ (IsUnknown U (fields_of p.fields) (choice c.0 (cases_of c.1) c.2) (Some (c.0, s)) p.rest)
-        (λ n v h. (unknown_beside c s [] Open (λ m. no_case_field m s c.1 e) n h.0, last_true (is_open p.rest) (not (has_literal s (cases_of c.1))) (ap not (no_literal_there s c.1 e)), h.2))
+        (λ n v h. (unknown_beside c s [] Open (λ m. case_field m s c.1 ∙ ap (field_of m) e) n h.0, right_or (is_open p.rest) (not (has_literal s (cases_of c.1))) (ap not (literal_known s c.1 ∙ ap is_some e)), h.2))
         (slots_of r.rest) read.rest,
   )
 

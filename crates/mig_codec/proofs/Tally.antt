@@ -1,19 +1,19 @@
 -- Counted nodes of trees: they depend on the trees at points alone, and how many points are allowed plays no part.
-use Rattle.std.proofs.Common.{◌≡◌, refl, sym, ap, ap₂, ℕ, zero, suc, ◌+◌, ◌<◌, arith, List, [], ◌∷◌, true, true≢false}
+use Rattle.std.proofs.Common.{◌≡◌, refl, ap, ap₂, ℕ, zero, suc, ◌+◌, ◌<◌, arith, List, [], ◌∷◌, true}
 use Rattle.mig_model.specs.declared.form.Form.{Form}
 use Rattle.mig_model.specs.Plain as plain
 use Rattle.mig_model.specs.Plain.{Plain, items, entries}
 use Rattle.mig_model.specs.Kinds.{kind_of}
-use Rattle.mig_model.specs.Template.{Template, leaf, any, list, point, rec, sum, Fields, no_field, field, Choice, no_choice, choice, Cases, no_case, case, same_name, has_kind}
+use Rattle.mig_model.specs.Template.{Template, leaf, any, list, point, rec, sum, Fields, no_field, field, Choice, no_choice, choice, Cases, no_case, case, has_kind}
+use Rattle.mig_model.specs.Names.{same_name}
 use Rattle.mig_model.specs.Inhabits.{Entries, EachItem, EachEntry, has_tag, depth}
 use Rattle.mig_model.specs.Family.{Family, body, IsFormed}
 use Rattle.mig_laws.specs.Sides.{is_guarded}
 use Rattle.mig_laws.proofs.Tests.{if_agree}
-use Rattle.mig_laws.proofs.Parts.{PartsHave, PassesDown, depth_down, parts_below}
+use Rattle.mig_laws.proofs.Parts.{PartsHave, PassesDown, Near, near, at_point, at_sides, depth_down, near_below}
 use Rattle.mig_laws.proofs.Formed.{body_guarded}
 use Rattle.mig_value.specs.Nodes.{Test, count, sum_items, sum_list, sum_entries, sum_map, tally, tally_fields, tally_choice, tally_cases, tree_nodes_within, tree_nodes}
 use Rattle.mig_codec.specs.Reading.{part_nodes}
-use Rattle.mig_model.proofs.Bools.{split_and}
 
 -- what is counted at the trees at points
 abbrev pub Count : Type 0
@@ -46,19 +46,21 @@ module _ (form : Form) (R : Plain → Type 0) (down : PassesDown R) where
   Agree h g = (n : List ℕ) (t : Plain) → R t → h n t ≡ g n t
 
   mutual
-    tally_agree : (h g : Count) → Agree h g → (V : Template) (t : Plain) → R t → tally form h V t ≡ tally form g V t
+    tally_agree : (h g : Count) → Agree h g → (V : Template) (t : Plain) → Near R V t → tally form h V t ≡ tally form g V t
     tally_agree h g e (leaf k) t r = refl
     tally_agree h g e any t r = refl
-    tally_agree h g e (list V) t r = list_agree R _ _ (tally_agree h g e V) t (down t r)
-    tally_agree h g e (point n) t r = e n t r
+    tally_agree h g e (list V) t r = list_agree R _ _ (λ u q. tally_agree h g e V u (near R down V u q)) t r.parts
+    tally_agree h g e (point n) t r = e n t (at_point R n t r)
     tally_agree h g e (rec fs c o) t r =
         map_agree R (record_tally form h fs c) (record_tally form g fs c)
-        (λ es q. entries_agree R _ _ (choice_agree h g e c (tally_fields form h fs) (tally_fields form g fs) (fields_agree h g e fs) es) es q) t (down t r)
-    tally_agree h g e (sum V W) t r = if_agree (has_kind form V (kind_of t)) (tally_agree h g e V t r) (if_agree (has_kind form W (kind_of t)) (tally_agree h g e W t r) refl)
+        (λ es q. entries_agree R _ _ (choice_agree h g e c (tally_fields form h fs) (tally_fields form g fs) (fields_agree h g e fs) es) es q) t r.parts
+    tally_agree h g e (sum V W) t r =
+        let both = at_sides R V W t r in
+        if_agree (has_kind form V (kind_of t)) (tally_agree h g e V t both.0) (if_agree (has_kind form W (kind_of t)) (tally_agree h g e W t both.1) refl)
 
     fields_agree : (h g : Count) → Agree h g → (fs : Fields) (a b : Count) → Agree a b → Agree (tally_fields form h fs a) (tally_fields form g fs b)
     fields_agree h g e no_field a b f n t r = f n t r
-    fields_agree h g e (field x p V fs) a b f n t r = if_agree (same_name n x) (tally_agree h g e V t r) (fields_agree h g e fs a b f n t r)
+    fields_agree h g e (field x p V fs) a b f n t r = if_agree (same_name n x) (tally_agree h g e V t (near R down V t r)) (fields_agree h g e fs a b f n t r)
 
     choice_agree : (h g : Count) → Agree h g → (c : Choice) (k l : Count → Count) → ((a b : Count) → Agree a b → Agree (k a) (l b)) → (es : Entries)
         → Agree (tally_choice form h c k es) (tally_choice form g c l es)
@@ -68,19 +70,6 @@ module _ (form : Form) (R : Plain → Type 0) (down : PassesDown R) where
     cases_agree : (h g : Count) → Agree h g → (tag : List ℕ) (cs : Cases) (es : Entries) → Agree (tally_cases form h tag cs es) (tally_cases form g tag cs es)
     cases_agree h g e tag no_case es n t r = refl
     cases_agree h g e tag (case l fs cs) es n t r = if_agree (has_tag tag l es) (fields_agree h g e fs _ _ (λ m u _. refl) n t r) (cases_agree h g e tag cs es n t r)
-
-  -- at a guarded template the trees at points are parts of the tree
-  tally_falls : (h g : Count) → Agree h g → (V : Template) (t : Plain) → is_guarded V ≡ true → PartsHave R t → tally form h V t ≡ tally form g V t
-  tally_falls h g e (leaf k) t s r = refl
-  tally_falls h g e any t s r = refl
-  tally_falls h g e (list V) t s r = list_agree R _ _ (tally_agree h g e V) t r
-  tally_falls h g e (point n) t s r = absurd (true≢false (sym s))
-  tally_falls h g e (rec fs c o) t s r =
-      map_agree R (record_tally form h fs c) (record_tally form g fs c)
-      (λ es q. entries_agree R _ _ (choice_agree h g e c (tally_fields form h fs) (tally_fields form g fs) (fields_agree h g e fs) es) es q) t r
-  tally_falls h g e (sum V W) t s r =
-      let both = split_and (is_guarded V) (is_guarded W) s in
-      if_agree (has_kind form V (kind_of t)) (tally_falls h g e V t both.0 r) (if_agree (has_kind form W (kind_of t)) (tally_falls h g e W t both.1 r) refl)
 
 module _ (form : Form) (bodies : List ℕ → Template) (p : Test) (guarded : (n : List ℕ) → is_guarded (bodies n) ≡ true) where
   -- a point counts by its name, and what is below it
@@ -95,13 +84,13 @@ module _ (form : Form) (bodies : List ℕ → Template) (p : Test) (guarded : (n
   nodes_enough zero k n t lj lk = absurd (omega arith)
   nodes_enough (suc j) zero n t lj lk = absurd (omega arith)
   nodes_enough (suc j) (suc k) n t lj lk =
-      tally_falls form (λ u. depth u < depth t) (depth_down (depth t)) (within j) (within k)
-      (λ m u lt. ap (λ i. count (p m) + i) (nodes_enough j k m u (omega arith) (omega arith))) (bodies n) t (guarded n) (parts_below t)
+      tally_agree form (λ u. depth u < depth t) (depth_down (depth t)) (within j) (within k)
+      (λ m u lt. ap (λ i. count (p m) + i) (nodes_enough j k m u (omega arith) (omega arith))) (bodies n) t (near_below (bodies n) t (guarded n))
 
   nodes_unfold : (n : List ℕ) (t : Plain) → tree_nodes_within form bodies p (suc (depth t)) n t ≡ tally form whole (bodies n) t
   nodes_unfold n t =
-      tally_falls form (λ u. depth u < depth t) (depth_down (depth t)) (within (depth t)) whole
-      (λ m u lt. ap (λ i. count (p m) + i) (nodes_enough (depth t) (suc (depth u)) m u lt (omega arith))) (bodies n) t (guarded n) (parts_below t)
+      tally_agree form (λ u. depth u < depth t) (depth_down (depth t)) (within (depth t)) whole
+      (λ m u lt. ap (λ i. count (p m) + i) (nodes_enough (depth t) (suc (depth u)) m u lt (omega arith))) (bodies n) t (near_below (bodies n) t (guarded n))
 
 -- the counted nodes of a tree of a named type are those at its body
 pub body_nodes : (f : Family) → IsFormed f → (p : Test) (n : List ℕ) (t : Plain) → tree_nodes f p n t ≡ part_nodes f p (body f n) t

@@ -5,13 +5,12 @@ use Rattle.std.specs.Map.{keys_of}
 use Rattle.mig_model.specs.declared.presence.Presence.{Presence}
 use Rattle.mig_model.specs.Plain as plain
 use Rattle.mig_model.specs.Plain.{Plain}
-use Rattle.mig_model.specs.Names.{found}
+use Rattle.mig_model.specs.Names.{under, has_twice}
 use Rattle.mig_model.specs.Inhabits.{Entries, has_musts, is_in_form}
 use Rattle.mig_model.specs.Template.{Template, fields_of, is_open}
-use Rattle.mig_model.specs.Family.{Family, body, has_twice}
+use Rattle.mig_model.specs.Family.{Family, body}
 use Rattle.mig_model.specs.declared.rest.Rest.{Rest}
-use Rattle.mig_model.specs.Place.{Place, named, Wrong, sooner, under, place, wrong_entry}
-use Rattle.mig_template.specs.Parts.{found_field}
+use Rattle.mig_model.specs.Place.{Place, named, Wrong, sooner, place_under, place, wrong_entry}
 use Rattle.mig_value.specs.Typed.{atom, slots_of, out_slots, tag_pair, in_order}
 use Rattle.mig_value.specs.Nodes.{Test, sum_entries}
 use Rattle.mig_value.specs.Parts.{RecordParts}
@@ -63,7 +62,7 @@ below_name n (Some p) = Some (n, p)
 
 abbrev pub Places : Family → Row → List ℕ → Plain → Result Placed Stop → Type 0
 Places f row n t (Ok placed) = IsPlaced f row n t placed
-Places f row n t (Err stop) = StopsAt stop (under (below_name n (wrong_pair f row n t)))
+Places f row n t (Err stop) = StopsAt stop (place_under (below_name n (wrong_pair f row n t)))
 
 -- the tree is a text
 abbrev pub TagAt : Plain → Type 0
@@ -79,7 +78,7 @@ PlacesUnknown r n t (Err stop) = (is_open r ≡ false) × StopsAt stop (Some (na
 -- the map has a text under the tag's name
 abbrev pub HasTag : Option (List ℕ) → Entries → Type 0
 HasTag None es = Unit {0}
-HasTag (Some tag) es = (s : List ℕ) × (found tag es ≡ Some (plain.text s))
+HasTag (Some tag) es = (s : List ℕ) × (under tag es ≡ Some (plain.text s))
 
 abbrev pub tag_names : Option (List ℕ) → List (List ℕ)
 tag_names None = []
@@ -87,8 +86,8 @@ tag_names (Some tag) = tag ∷ []
 
 -- the templates of a record in a body, whose names are distinct
 pub record IsRow (f : Family) (row : Row) : Type 0 where
-  pub fields : (n : List ℕ) (p : Presence) (V : Template) → found_field n row.fields ≡ Some (p, V) → IsPart f V
-  pub cased : (n : List ℕ) (p : Presence) (V : Template) → found_field n row.cased ≡ Some (p, V) → IsPart f V
+  pub fields : (n : List ℕ) (p : Presence) (V : Template) → under n row.fields ≡ Some (p, V) → IsPart f V
+  pub cased : (n : List ℕ) (p : Presence) (V : Template) → under n row.cased ≡ Some (p, V) → IsPart f V
   pub apart : has_twice (keys_of row.cased ++ (tag_names row.tag ++ keys_of row.fields)) ≡ false
 
 abbrev pub is_tagged : Belongs → Bool
@@ -97,7 +96,7 @@ is_tagged b = false
 
 -- the first wrong name of the map, or the first Must field that isn't there
 abbrev pub wrong_row : Family → Row → Entries → Option Place
-wrong_row f row es = under (sooner (wrong_entry (wrong_pair f row) es) (missing_in row es))
+wrong_row f row es = place_under (sooner (wrong_entry (wrong_pair f row) es) (missing_in row es))
 
 -- the map was read as the record value
 pub record IsRowRead (f : Family) (row : Row) (es : Entries) (p : RecordParts) : Type 0 where

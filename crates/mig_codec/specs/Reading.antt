@@ -10,7 +10,7 @@ use Rattle.mig_tree.specs.Place.{place_of}
 use Rattle.mig_value.specs.Typed.{Typed, out, out_items, items_of}
 use Rattle.mig_value.specs.Nodes.{Test, count, nodes, nodes_in_items, sum_items, tally, tree_nodes}
 use Rattle.mig_value.specs.Parts.{NodeParts}
-use Rattle.mig_value.specs.Fit.{EachItem, Fits, FitAsRead, IsAtomOf}
+use Rattle.mig_value.specs.Fit.{EachItem, ValueFits, FitAsRead, IsAtomOf}
 use Rattle.mig_value.specs.View.{typed_of}
 use Rattle.mig_value.specs.declared.value.Value.{Value}
 use Rattle.mig_value.specs.declared.values.Values.{Values}
@@ -34,7 +34,7 @@ HasNodesOf f n t v = (p : Test) → nodes p v ≡ tree_nodes f p n t
 
 -- the value is one of the template, and its nodes are ones of their types
 abbrev pub IsTyped : Family → Template → Typed → Type 0
-IsTyped f V v = Fits (IsAtomOf f.form) (FitAsRead f.form (body f)) V v
+IsTyped f V v = ValueFits (IsAtomOf f.form) (FitAsRead f.form (body f)) V v
 
 -- the steps that were met, innermost first, lead to the place; want of memory says nothing
 abbrev pub StopsAt : Stop → Option Place → Type 0

@@ -41,7 +41,7 @@ fn set_tag<'a>(tag: &mut Option<(Text<'a>, Text<'a>)>, name: Text<'a>, literal: 
 
 impl<'a> Pieces<'a> {
     ghost use Rattle.std.specs.Prelude.{◌≡◌, [], None, OnOk, IfOk};
-    ghost use Rattle.mig_value.specs.Parts.{IsRecord};
+    ghost use Rattle.mig_value.specs.Parts.{IsRecordValue};
     ghost use Rattle.mig_codec.specs.Parted.{pieces_of, added};
 
     /// Nothing yet.
@@ -73,7 +73,7 @@ impl<'a> Pieces<'a> {
 
     /// The record value of these pieces, whose lists ascend and whose names are distinct.
     pub fn into_record(self, alloc: Global) -> Result<RecValue<'a>, Memory>
-        requires { IsRecord (pieces_of self) }
+        requires { IsRecordValue (pieces_of self) }
         ensures { IfOk result (λ r. r ≡ pieces_of self.entry) }
     {
         let Pieces {

@@ -3,7 +3,7 @@ use Rattle.std.proofs.Common.{◌≡◌, ℕ, List, Bool, true, false, Option, S
 use Rattle.std.specs.Prelude.{if◌then◌else◌}
 use Rattle.mig_model.specs.declared.presence.Presence.{Presence}
 use Rattle.mig_model.specs.Template.{Template}
-use Rattle.mig_template.specs.Parts.{found_field}
+use Rattle.mig_model.specs.Names.{under}
 use Rattle.mig_row.specs.Row.{Row, Belongs, common, tagged, cased, unknown, is_tag, in_case, in_fields, belongs}
 
 abbrev pub by_tests : Bool → Option (Presence × Template) → Option (Presence × Template) → Belongs
@@ -30,8 +30,8 @@ tagged_tests false None None e = absurd cc
 
 pub record NoField (row : Row) (n : List ℕ) : Type 0 where
   pub tag : is_tag row.tag n ≡ false
-  pub fields : found_field n row.fields ≡ None
-  pub cases : found_field n row.cased ≡ None
+  pub fields : under n row.fields ≡ None
+  pub cases : under n row.cased ≡ None
 
 unknown_tests : (b : Bool) (o u : Option (Presence × Template)) → by_tests b o u ≡ unknown → (b ≡ false) × (o ≡ None) × (u ≡ None)
 unknown_tests true o u e = absurd cc
@@ -40,14 +40,14 @@ unknown_tests false None (Some s) e = absurd cc
 unknown_tests false None None e = (refl, refl, refl)
 
 module _ (row : Row) (n : List ℕ) where
-  pub common_found : (V : Template) → belongs row n ≡ common V → (q : Presence) × (found_field n row.fields ≡ Some (q, V))
-  common_found V e = common_tests (is_tag row.tag n) (found_field n row.fields) (found_field n row.cased) V e
+  pub common_found : (V : Template) → belongs row n ≡ common V → (q : Presence) × (under n row.fields ≡ Some (q, V))
+  common_found V e = common_tests (is_tag row.tag n) (under n row.fields) (under n row.cased) V e
 
-  pub cased_found : (V : Template) → belongs row n ≡ cased V → (q : Presence) × (found_field n row.cased ≡ Some (q, V))
-  cased_found V e = cased_tests (is_tag row.tag n) (found_field n row.fields) (found_field n row.cased) V e
+  pub cased_found : (V : Template) → belongs row n ≡ cased V → (q : Presence) × (under n row.cased ≡ Some (q, V))
+  cased_found V e = cased_tests (is_tag row.tag n) (under n row.fields) (under n row.cased) V e
 
   pub tagged_found : belongs row n ≡ tagged → is_tag row.tag n ≡ true
-  tagged_found e = tagged_tests (is_tag row.tag n) (found_field n row.fields) (found_field n row.cased) e
+  tagged_found e = tagged_tests (is_tag row.tag n) (under n row.fields) (under n row.cased) e
 
   pub unknown_found : belongs row n ≡ unknown → NoField row n
-  unknown_found e = let t = unknown_tests (is_tag row.tag n) (found_field n row.fields) (found_field n row.cased) e in record { tag = t.0; fields = t.1; cases = t.2 }
+  unknown_found e = let t = unknown_tests (is_tag row.tag n) (under n row.fields) (under n row.cased) e in record { tag = t.0; fields = t.1; cases = t.2 }

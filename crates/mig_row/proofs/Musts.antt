@@ -10,11 +10,11 @@ use Rattle.std.proofs.lemmas.List.Sums.{sum_by-cons}
 use Rattle.std.proofs.lemmas.Map.Keys.{sorted_head, sorted_tail}
 use Rattle.mig_model.specs.declared.presence.Presence.{Presence}
 use Rattle.mig_model.specs.Plain.{Plain}
-use Rattle.mig_model.specs.Names.{by_bytes, IsNamed, found}
+use Rattle.mig_model.specs.Names.{by_bytes, Ascends, under, same_name}
 use Rattle.mig_model.specs.Inhabits.{Entries}
 use Rattle.mig_model.specs.Place.{missing}
-use Rattle.mig_model.specs.Template.{Template, Field, fields_of, same_name, is_must}
-use Rattle.mig_template.specs.Parts.{found_field, musts_in}
+use Rattle.mig_model.specs.Template.{Template, Field, fields_of, is_must}
+use Rattle.mig_template.specs.Parts.{musts_in}
 use Rattle.mig_row.specs.Row.{is_must_field, musts_among}
 use Rattle.mig_model.proofs.SameNames.{same_name_is, same_name_itself}
 use Rattle.mig_model.proofs.OneOrder.{not_itself}
@@ -56,7 +56,7 @@ name_swapped x y false k = by (same_name x y) refl
     by true j = absurd (true≢false (sym (ap (λ z. same_name y z) (same_name_is x y j) ∙ same_name_itself y) ∙ k))
 
 -- a name adds at most one, and only where it is there and passes
-with_name : (x : List ℕ) (b : Bool) (q : List ℕ → Bool) (es : Entries) → IsNamed es → names_among (but_at x b q) es ≤ bit (b && is_some (found x es)) + names_among q es
+with_name : (x : List ℕ) (b : Bool) (q : List ℕ → Bool) (es : Entries) → Ascends es → names_among (but_at x b q) es ≤ bit (b && is_some (under x es)) + names_among q es
 with_name x b q [] s = omega arith
 with_name x b q (e ∷ es) s = by (same_name e.0 x) refl (with_name x b q es (sorted_tail by_bytes e.0 (keys_of es) s))
   where
@@ -67,8 +67,8 @@ with_name x b q (e ∷ es) s = by (same_name e.0 x) refl (with_name x b q es (so
     one true = refl
     one false = refl
 
-    by : (c : Bool) → same_name e.0 x ≡ c → names_among (but_at x b q) es ≤ bit (b && is_some (found x es)) + names_among q es
-        → bit (if c then b else q e.0) + names_among (but_at x b q) es ≤ bit (b && is_some (if same_name x e.0 then Some e.1 else found x es)) + (bit (q e.0) + names_among q es)
+    by : (c : Bool) → same_name e.0 x ≡ c → names_among (but_at x b q) es ≤ bit (b && is_some (under x es)) + names_among q es
+        → bit (if c then b else q e.0) + names_among (but_at x b q) es ≤ bit (b && is_some (if same_name x e.0 then Some e.1 else under x es)) + (bit (q e.0) + names_among q es)
     by true k rest = rw (name_swapped x e.0 true k) (omega (arith, here k, one b))
     by false k rest = rw (name_swapped x e.0 false k) (omega (arith, rest))
 
@@ -85,10 +85,10 @@ one_field true s o = refl
 one_field false s o = refl
 
 abbrev passes : List Field → List ℕ → Bool
-passes fs n = is_must_field (found_field n fs)
+passes fs n = is_must_field (under n fs)
 
 first_field : (g : Field) (fs : List Field) (es : Entries) → musts_among (g ∷ fs) es ≡ names_among (but_at g.0 (is_must g.1.0) (passes fs)) es
-first_field g fs es = counted (passes (g ∷ fs)) es ∙ same_names (passes (g ∷ fs)) (but_at g.0 (is_must g.1.0) (passes fs)) (λ n. one_field (same_name n g.0) g.1 (found_field n fs)) es
+first_field g fs es = counted (passes (g ∷ fs)) es ∙ same_names (passes (g ∷ fs)) (but_at g.0 (is_must g.1.0) (passes fs)) (λ n. one_field (same_name n g.0) g.1 (under n fs)) es
 
 first_must : (g : Field) (fs : List Field) → musts_in (g ∷ fs) ≡ bit (is_must g.1.0) + musts_in fs
 first_must g fs = sum_by-cons (λ (f : Field). bit (is_must f.1.0)) g fs
@@ -99,22 +99,22 @@ no_more true false = omega arith
 no_more false t = omega arith
 
 -- no more names are those of Must fields than there are Must fields
-among_bound : (fs : List Field) (es : Entries) → IsNamed es → musts_among fs es ≤ musts_in fs
+among_bound : (fs : List Field) (es : Entries) → Ascends es → musts_among fs es ≤ musts_in fs
 among_bound [] es s = omega (arith, counted (λ n. false) es, no_names es)
 among_bound (g ∷ fs) es s =
     let m = is_must g.1.0 in
-    omega (arith, first_field g fs es, with_name g.0 m (passes fs) es s, no_more m (is_some (found g.0 es)), among_bound fs es s, counted (passes fs) es, first_must g fs)
+    omega (arith, first_field g fs es, with_name g.0 m (passes fs) es s, no_more m (is_some (under g.0 es)), among_bound fs es s, counted (passes fs) es, first_must g fs)
 
 not_missing : (m t : Bool) → bit m ≤ bit (m && t) → (not m || t) ≡ true
 not_missing true true l = refl
 not_missing true false l = absurd (omega (arith, l))
 not_missing false t l = refl
 
-pub none_missing : (fs : List Field) (es : Entries) → IsNamed es → musts_among fs es ≡ musts_in fs → missing (fields_of fs) es ≡ None
+pub none_missing : (fs : List Field) (es : Entries) → Ascends es → musts_among fs es ≡ musts_in fs → missing (fields_of fs) es ≡ None
 none_missing [] es s e = refl
 none_missing (g ∷ fs) es s e =
     let m = is_must g.1.0 in
-    let t = is_some (found g.0 es) in
+    let t = is_some (under g.0 es) in
     let adds = with_name g.0 m (passes fs) es s in
     let bound = among_bound fs es s in
     let first = first_field g fs es in

@@ -6,12 +6,12 @@ use Rattle.mig_model.specs.declared.rest.Rest.{Rest}
 use Rattle.mig_model.specs.declared.rest.Rest.TheVariants.{Open}
 use Rattle.mig_model.specs.Plain as plain
 use Rattle.mig_model.specs.Plain.{Plain}
-use Rattle.mig_model.specs.Names.{found}
-use Rattle.mig_model.specs.Template.{Template, Field, fields_of, same_name, is_must, is_open}
+use Rattle.mig_model.specs.Names.{under, same_name}
+use Rattle.mig_model.specs.Template.{Template, Field, fields_of, is_must, is_open}
 use Rattle.mig_model.specs.Inhabits.{Entries}
 use Rattle.mig_model.specs.Place.{Place, Wrong, sooner, missing, unless, wrong}
 use Rattle.mig_template.specs.Parts as parts
-use Rattle.mig_template.specs.Parts.{RecordParts, found_field, found_case}
+use Rattle.mig_template.specs.Parts.{RecordParts, found_case}
 
 -- the common fields, the tag's name where there is a choice, the fields of the tag's case, and whether other names may stand there
 pub record Row : Type 0 where
@@ -41,7 +41,7 @@ in_fields (Some s) other = common s.1
 
 -- by the fields alone
 abbrev pub among_fields : Row → List ℕ → Belongs
-among_fields row n = in_fields (found_field n row.fields) (in_case (found_field n row.cased))
+among_fields row n = in_fields (under n row.fields) (in_case (under n row.cased))
 
 abbrev pub belongs : Row → List ℕ → Belongs
 belongs row n = if is_tag row.tag n then tagged else among_fields row n
@@ -63,7 +63,7 @@ is_must_field (Some s) = is_must s.0
 
 -- how many names of a map are those of Must fields
 abbrev pub musts_among : List Field → Entries → ℕ
-musts_among fs es = count_by (λ e. is_must_field (found_field e.0 fs)) es
+musts_among fs es = count_by (λ e. is_must_field (under e.0 fs)) es
 
 -- the first Must field that isn't there
 abbrev pub missing_in : Row → Entries → Wrong
@@ -81,7 +81,7 @@ with_tag p tag kept o = None
 
 abbrev pub with_choice : RecordParts → Option parts.Cases → Entries → Option Row
 with_choice p None es = Some (record { fields = p.fields; tag = None; cased = []; rest = p.rest })
-with_choice p (Some c) es = with_tag p c.0 c.2 (found c.0 es)
+with_choice p (Some c) es = with_tag p c.0 c.2 (under c.0 es)
 
 -- the record at a map; none where there is a choice and the tag isn't a literal of it, nor another text that is kept
 abbrev pub row_of : RecordParts → Entries → Option Row

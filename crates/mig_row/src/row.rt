@@ -3,7 +3,7 @@ ghost use Rattle.std.specs.Prelude.{◌≡◌, Some, option_map};
 ghost use Rattle.mig_model.specs.Plain.{text};
 ghost use Rattle.mig_model.specs.Place.{missing, sooner};
 ghost use Rattle.mig_model.specs.Template.{fields_of};
-ghost use Rattle.mig_template.specs.Parts.{found_field};
+ghost use Rattle.mig_model.specs.Names.{under};
 ghost use Rattle.mig_row.specs.Row.{row_of, with_tag, is_must_field, musts_among};
 ghost use Rattle.mig_row.specs.RowView.{row_view, missing_view, earlier};
 
@@ -79,7 +79,7 @@ pub fn row_of<'r>(schema: &'r Record, entries: &Entries) -> Option<Row<'r>>
 
 /// Whether the name is that of a Must field.
 fn is_must(fields: &Fields, name: &[u8]) -> bool
-    ensures { result ≡ is_must_field (found_field name.now fields.now) }
+    ensures { result ≡ is_must_field (under name.now fields.now) }
 {
     match fields.get(name) {
         Some(field) => field.presence == Presence::Must,

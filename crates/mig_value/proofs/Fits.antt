@@ -2,9 +2,10 @@
 use Rattle.std.proofs.Common.{◌≡◌, ◌↔◌, ℕ, zero, suc, ◌<◌, ◌≤◌, List, Bool, true, false, Option, Some, None, MatchBool, refl, sym, subst, arith}
 use Rattle.mig_model.specs.declared.form.Form.{Form}
 use Rattle.mig_model.specs.Template as template
-use Rattle.mig_model.specs.Template.{Template, Fields, no_field, field, Choice, no_choice, choice, Cases, no_case, case, same_name}
+use Rattle.mig_model.specs.Template.{Template, Fields, no_field, field, Choice, no_choice, choice, Cases, no_case, case}
+use Rattle.mig_model.specs.Names.{same_name}
 use Rattle.mig_value.specs.Typed.{Typed, atom, list, left, right, rec, point, Items, no_item, item, Slots, no_slot, slot, Tag, typed_size, items_size, slots_size}
-use Rattle.mig_value.specs.Fit.{EachItem, EachSlot, IsListOf, IsSideOf, IsNodeOf, Fits, FieldsFit, ChoiceFits, CasesFit, IsUnknown, IsOfForm, IsAtomOf, FitWithin, FitBy, Fit, FitAsRead}
+use Rattle.mig_value.specs.Fit.{EachItem, EachSlot, IsListOf, IsSideOf, IsNodeOf, ValueFits, FieldsFit, ChoiceFits, CasesFit, IsUnknown, IsOfForm, IsAtomOf, FitWithin, FitBy, Fit, FitAsRead}
 
 pub size_positive : (v : Typed) → 0 < typed_size v
 size_positive (atom t) = omega arith
@@ -28,11 +29,11 @@ each_slot A B b f no_slot l e = tt
 each_slot A B b f (slot n v ss) l e = (f n v (omega arith) e.0, each_slot A B b f ss (omega arith) e.1)
 
 module _ (U T : Typed → Type 0) (weaker : (v : Typed) → U v → T v) (P Q : List ℕ → Typed → Type 0) (b : ℕ) (h : (n : List ℕ) (w : Typed) → typed_size w < b → P n w → Q n w) where
-  list_of : (V : Template) → ((v : Typed) → typed_size v ≤ b → Fits U P V v → Fits T Q V v) → (v : Typed) → typed_size v ≤ b → IsListOf (Fits U P V) v → IsListOf (Fits T Q V) v
-  list_of V f (list vs) l e = each_item (Fits U P V) (Fits T Q V) b f vs (omega arith) e
+  list_of : (V : Template) → ((v : Typed) → typed_size v ≤ b → ValueFits U P V v → ValueFits T Q V v) → (v : Typed) → typed_size v ≤ b → IsListOf (ValueFits U P V) v → IsListOf (ValueFits T Q V) v
+  list_of V f (list vs) l e = each_item (ValueFits U P V) (ValueFits T Q V) b f vs (omega arith) e
   list_of V f v l e = absurd e
 
-  side_of : (V W : Template) → ((v : Typed) → typed_size v ≤ b → Fits U P V v → Fits T Q V v) → ((v : Typed) → typed_size v ≤ b → Fits U P W v → Fits T Q W v) → (v : Typed) → typed_size v ≤ b → IsSideOf (Fits U P V) (Fits U P W) v → IsSideOf (Fits T Q V) (Fits T Q W) v
+  side_of : (V W : Template) → ((v : Typed) → typed_size v ≤ b → ValueFits U P V v → ValueFits T Q V v) → ((v : Typed) → typed_size v ≤ b → ValueFits U P W v → ValueFits T Q W v) → (v : Typed) → typed_size v ≤ b → IsSideOf (ValueFits U P V) (ValueFits U P W) v → IsSideOf (ValueFits T Q V) (ValueFits T Q W) v
   side_of V W f g (left v) l e = f v (omega arith) e
   side_of V W f g (right v) l e = g v (omega arith) e
   side_of V W f g v l e = absurd e
@@ -43,7 +44,7 @@ module _ (U T : Typed → Type 0) (weaker : (v : Typed) → U v → T v) (P Q : 
 
   mutual
     -- what is asked of nodes may be replaced where it follows for smaller values
-    pub fits_inside : (V : Template) (v : Typed) → typed_size v ≤ b → Fits U P V v → Fits T Q V v
+    pub fits_inside : (V : Template) (v : Typed) → typed_size v ≤ b → ValueFits U P V v → ValueFits T Q V v
     fits_inside (template.leaf k) v l e = e
     fits_inside template.any v l e = weaker v e
     fits_inside (template.list V) v l e = list_of V (fits_inside V) v l e
@@ -74,7 +75,7 @@ module _ (U : Typed → Type 0) (body : List ℕ → Template) where
   same_within (suc j) (suc k) n v a b e =
       fits_inside U U (λ v u. u) (FitWithin U body j) (FitWithin U body k) (typed_size v) (λ m w l. same_within j k m w (omega arith) (omega arith)) (body n) v (omega arith) e
 
-  one_more : (k : ℕ) (n : List ℕ) (v : Typed) → typed_size v ≡ suc k → FitWithin U body (suc k) n v ↔ Fits U (FitBy U body) (body n) v
+  one_more : (k : ℕ) (n : List ℕ) (v : Typed) → typed_size v ≡ suc k → FitWithin U body (suc k) n v ↔ ValueFits U (FitBy U body) (body n) v
   one_more k n v e = (
     fits_inside U U (λ v u. u) (FitWithin U body k) (FitBy U body) (typed_size v) (λ m w l. same_within k (typed_size w) m w (omega arith) (omega arith)) (body n) v (omega arith),
     fits_inside U U (λ v u. u) (FitBy U body) (FitWithin U body k) (typed_size v) (λ m w l. same_within (typed_size w) k m w (omega arith) (omega arith)) (body n) v (omega arith),
@@ -84,10 +85,10 @@ module _ (U : Typed → Type 0) (body : List ℕ → Template) where
   some_more zero l = absurd (omega arith)
   some_more (suc j) l = (j, refl)
 
-  pub fit_unfolds : (n : List ℕ) (v : Typed) → FitBy U body n v ↔ Fits U (FitBy U body) (body n) v
+  pub fit_unfolds : (n : List ℕ) (v : Typed) → FitBy U body n v ↔ ValueFits U (FitBy U body) (body n) v
   fit_unfolds n v =
       let s = some_more (typed_size v) (size_positive v) in
-      subst (λ k. FitWithin U body k n v ↔ Fits U (FitBy U body) (body n) v) (sym s.1) (one_more s.0 n v s.1)
+      subst (λ k. FitWithin U body k n v ↔ ValueFits U (FitBy U body) (body n) v) (sym s.1) (one_more s.0 n v s.1)
 
 -- an atom of the form is a value whose tree is of the form
 atom_of_form : (form : Form) (v : Typed) → IsAtomOf form v → IsOfForm form v

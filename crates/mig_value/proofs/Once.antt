@@ -4,11 +4,9 @@ use Rattle.std.specs.List.{AllByRecursion, IsDistinct, list_any}
 use Rattle.std.specs.Map.{keys_of}
 use Rattle.std.proofs.lemmas.List.{append-nil}
 use Rattle.std.proofs.lemmas.Map.Keys.{IsDistinct-head, IsDistinct-tail, IsDistinct-from_sorted}
-use Rattle.mig_model.specs.Family.{has_twice}
-use Rattle.mig_model.specs.Names.{by_bytes}
-use Rattle.mig_model.specs.Template.{same_name}
+use Rattle.mig_model.specs.Names.{has_twice, by_bytes, same_name}
 use Rattle.mig_value.specs.Typed.{Typed, Slot}
-use Rattle.mig_value.specs.Kept.{SlotListKept, RecordKept}
+use Rattle.mig_value.specs.Kept.{SlotListKept, RecordValueKept}
 use Rattle.mig_model.proofs.Rising.{nothing_ascends}
 
 none_is : (n : List ℕ) (ns : List (List ℕ)) → AllByRecursion (λ m. same_name n m ≡ false) ns → list_any (same_name n) ns ≡ false
@@ -19,7 +17,7 @@ once_if_distinct : (ns : List (List ℕ)) → IsDistinct same_name ns → has_tw
 once_if_distinct [] h = refl
 once_if_distinct (n ∷ ns) h = rw (none_is n ns (IsDistinct-head same_name n ns h)) (once_if_distinct ns (IsDistinct-tail same_name n ns h))
 
-pub fields_alone : (fs : List Slot) → SlotListKept fs → RecordKept (record { fields = fs; tag = None; cased = []; rest = [] })
+pub fields_alone : (fs : List Slot) → SlotListKept fs → RecordValueKept (record { fields = fs; tag = None; cased = []; rest = [] })
 fields_alone fs k = (
   record {
     fields = k.0;

@@ -12,14 +12,11 @@ use Rattle.std.proofs.lemmas.Cmp.{nat_list_cmp_total}
 use Rattle.std_collections.specs.Layout.BTreeMap.{seek}
 use Rattle.std_collections.proofs.Seek.{AboveFirst, AnswersAt, seek-Ok}
 use Rattle.std_collections.proofs.Entries.{NonePasses}
-use Rattle.mig_model.specs.Ascends.{Ascends}
-use Rattle.mig_model.specs.Family.{has_twice}
-use Rattle.mig_model.specs.Names.{by_bytes}
-use Rattle.mig_model.specs.Template.{same_name}
+use Rattle.mig_model.specs.Names.{Ascends, has_twice, by_bytes, same_name}
 use Rattle.mig_model.proofs.Searches.{none_there}
 use Rattle.mig_value.specs.Typed.{Typed, Slot, slots_of, Tag}
 use Rattle.mig_value.specs.Parts.{Besides, tag_name, with_besides}
-use Rattle.mig_value.specs.Kept.{IsKept, SlotsKept, SlotListKept, RecordKept}
+use Rattle.mig_value.specs.Kept.{ValueKept, SlotsKept, SlotListKept, RecordValueKept}
 use Rattle.mig_value.specs.Places.{place_in, value_at, with_value_at}
 use Rattle.mig_value.specs.View.{typed_of, slot_of}
 use Rattle.mig_value.specs.declared.slots.Slot as code
@@ -42,17 +39,17 @@ keys_stay (suc n) w [] = refl
 keys_stay zero w (s ∷ ss) = refl
 keys_stay (suc n) w (s ∷ ss) = ap (λ (l : List (List ℕ)). s.0 ∷ l) (keys_stay n w ss)
 
-values_kept : (n : ℕ) (w : Typed) (ss : List Slot) → IsKept w → SlotsKept (slots_of ss) → SlotsKept (slots_of (with_value_at n w ss))
+values_kept : (n : ℕ) (w : Typed) (ss : List Slot) → ValueKept w → SlotsKept (slots_of ss) → SlotsKept (slots_of (with_value_at n w ss))
 values_kept zero w [] k h = tt
 values_kept (suc n) w [] k h = tt
 values_kept zero w (s ∷ ss) k h = (k, h.1)
 values_kept (suc n) w (s ∷ ss) k h = (h.0, values_kept n w ss k h.1)
 
-pub list_kept : (n : ℕ) (w : Typed) (ss : List Slot) → IsKept w → SlotListKept ss → SlotListKept (with_value_at n w ss)
+pub list_kept : (n : ℕ) (w : Typed) (ss : List Slot) → ValueKept w → SlotListKept ss → SlotListKept (with_value_at n w ss)
 list_kept n w ss k h = (subst (λ ks. IsStrictlySortedBy by_bytes ks) (sym (keys_stay n w ss)) h.0, values_kept n w ss k h.1)
 
 -- slots of the same names in place of a record's fields, or of those of its case
-pub fields_kept : (n : ℕ) (w : Typed) (fs gs : List Slot) (tag : Option Tag) (cs rs : List Slot) → gs ≡ with_value_at n w fs → SlotListKept gs → RecordKept (record { fields = fs; tag = tag; cased = cs; rest = rs }) → RecordKept (record { fields = gs; tag = tag; cased = cs; rest = rs })
+pub fields_kept : (n : ℕ) (w : Typed) (fs gs : List Slot) (tag : Option Tag) (cs rs : List Slot) → gs ≡ with_value_at n w fs → SlotListKept gs → RecordValueKept (record { fields = fs; tag = tag; cased = cs; rest = rs }) → RecordValueKept (record { fields = gs; tag = tag; cased = cs; rest = rs })
 fields_kept n w fs gs tag cs rs e k h =
     let same : keys_of fs ≡ keys_of gs = sym (keys_stay n w fs) ∙ ap keys_of (sym e) in (
       record {
@@ -64,7 +61,7 @@ fields_kept n w fs gs tag cs rs e k h =
       (k.1, h.1.1),
     )
 
-pub cased_kept : (n : ℕ) (w : Typed) (fs : List Slot) (tag : Option Tag) (cs ds rs : List Slot) → ds ≡ with_value_at n w cs → SlotListKept ds → RecordKept (record { fields = fs; tag = tag; cased = cs; rest = rs }) → RecordKept (record { fields = fs; tag = tag; cased = ds; rest = rs })
+pub cased_kept : (n : ℕ) (w : Typed) (fs : List Slot) (tag : Option Tag) (cs ds rs : List Slot) → ds ≡ with_value_at n w cs → SlotListKept ds → RecordValueKept (record { fields = fs; tag = tag; cased = cs; rest = rs }) → RecordValueKept (record { fields = fs; tag = tag; cased = ds; rest = rs })
 cased_kept n w fs tag cs ds rs e k h =
     let same : keys_of cs ≡ keys_of ds = sym (keys_stay n w cs) ∙ ap keys_of (sym e) in (
       record {
@@ -76,10 +73,10 @@ cased_kept n w fs tag cs ds rs e k h =
       (h.1.0, (k.1, h.1.1.1)),
     )
 
-pub besides_kept : (n : ℕ) (w : Typed) (fs : List Slot) (b d : Besides) → d ≡ record b { cased = with_value_at n w b.cased } → SlotListKept d.cased → RecordKept (with_besides fs b) → RecordKept (with_besides fs d)
+pub besides_kept : (n : ℕ) (w : Typed) (fs : List Slot) (b d : Besides) → d ≡ record b { cased = with_value_at n w b.cased } → SlotListKept d.cased → RecordValueKept (with_besides fs b) → RecordValueKept (with_besides fs d)
 besides_kept n w fs b d e k h =
     let kept : SlotListKept (with_value_at n w b.cased) = subst (λ (x : Besides). SlotListKept x.cased) e k in
-    subst (λ (x : Besides). RecordKept (with_besides fs x)) (sym e) (cased_kept n w fs b.tag b.cased (with_value_at n w b.cased) b.rest refl kept h)
+    subst (λ (x : Besides). RecordValueKept (with_besides fs x)) (sym e) (cased_kept n w fs b.tag b.cased (with_value_at n w b.cased) b.rest refl kept h)
 
 -- ---- the place that a binary search finds
 module _ (name : List ℕ) where

@@ -2,8 +2,8 @@
 use Rattle.std.proofs.Common.{◌≡◌, ℕ, List, [], ◌∷◌, refl, sym, ap, subst}
 use Rattle.mig_value.specs.Typed.{Typed, Slots, no_slot, slot, Slot, items, items_of, slots, slots_of}
 use Rattle.mig_value.specs.Fit.{EachSlot}
-use Rattle.mig_value.specs.Parts.{RecordParts, IsRecord, record_of}
-use Rattle.mig_value.specs.Kept.{IsKept, RecordKept}
+use Rattle.mig_value.specs.Parts.{RecordParts, IsRecordValue, record_of}
+use Rattle.mig_value.specs.Kept.{ValueKept, RecordValueKept}
 
 pub items_again : (vs : List Typed) → items (items_of vs) ≡ vs
 items_again [] = refl
@@ -26,5 +26,5 @@ weaker_slots P Q f (slot n v ss) e = (f n v e.0, weaker_slots P Q f ss e.1)
 pub parts_again : (p : RecordParts) → ◌≡◌ {A = RecordParts} (record { fields = slots (slots_of p.fields); tag = p.tag; cased = slots (slots_of p.cased); rest = slots (slots_of p.rest) }) p
 parts_again p = λ i. record { fields = slots_again p.fields i; tag = p.tag; cased = slots_again p.cased i; rest = slots_again p.rest i }
 
-pub record_kept : (p : RecordParts) → RecordKept p → IsKept (record_of p)
-record_kept p k = (subst IsRecord (sym (parts_again p)) k.0, k.1)
+pub record_kept : (p : RecordParts) → RecordValueKept p → ValueKept (record_of p)
+record_kept p k = (subst IsRecordValue (sym (parts_again p)) k.0, k.1)

@@ -5,7 +5,8 @@ use Rattle.mig_model.specs.declared.rest.Rest.{Rest}
 use Rattle.mig_model.specs.Plain.{Plain}
 use Rattle.mig_model.specs.Kinds.{kind_of}
 use Rattle.mig_model.specs.Template as template
-use Rattle.mig_model.specs.Template.{Template, Fields, no_field, field, Choice, no_choice, choice, Cases, no_case, case, same_name, is_open}
+use Rattle.mig_model.specs.Template.{Template, Fields, no_field, field, Choice, no_choice, choice, Cases, no_case, case, is_open}
+use Rattle.mig_model.specs.Names.{same_name}
 use Rattle.mig_model.specs.Fields.{is_field}
 use Rattle.mig_model.specs.Inhabits.{Entries, has_musts, is_in_form}
 use Rattle.mig_value.specs.Typed.{Typed, atom, list, left, right, rec, point, Items, no_item, item, Slots, no_slot, slot, Tag, out, out_slots, typed_size}
@@ -81,22 +82,22 @@ IsUnknown U fs c tag r n v = (is_field n fs || is_cased n c tag ≡ false) × Is
 
 -- a value is one of a template, where U says what may stand at `any` and at unknown names, and P what the body of a node at a point has to be
 abbrev mutual
-  pub Fits : (Typed → Type 0) → (List ℕ → Typed → Type 0) → Template → Typed → Type 0
-  Fits U P (template.leaf k) v = IsAtom (λ t. kind_of t ≡ k) v
-  Fits U P template.any v = U v
-  Fits U P (template.list V) v = IsListOf (Fits U P V) v
-  Fits U P (template.point n) v = IsNodeOf n (P n) v
-  Fits U P (template.rec fs c r) v =
+  pub ValueFits : (Typed → Type 0) → (List ℕ → Typed → Type 0) → Template → Typed → Type 0
+  ValueFits U P (template.leaf k) v = IsAtom (λ t. kind_of t ≡ k) v
+  ValueFits U P template.any v = U v
+  ValueFits U P (template.list V) v = IsListOf (ValueFits U P V) v
+  ValueFits U P (template.point n) v = IsNodeOf n (P n) v
+  ValueFits U P (template.rec fs c r) v =
       IsRecordOf
       (λ ss tag cs rs.
       TagFits c tag × IsTrue (has_musts fs (out_slots ss) && has_cased_musts c tag (out_slots cs)) × EachSlot (FieldsFit U P fs) ss × EachSlot (ChoiceFits U P c tag) cs × EachSlot (IsUnknown U fs c tag r) rs)
       v
-  Fits U P (template.sum V W) v = IsSideOf (Fits U P V) (Fits U P W) v
+  ValueFits U P (template.sum V W) v = IsSideOf (ValueFits U P V) (ValueFits U P W) v
 
   -- a value under a name that is a field
   pub FieldsFit : (Typed → Type 0) → (List ℕ → Typed → Type 0) → Fields → List ℕ → Typed → Type 0
   FieldsFit U P no_field n v = ⊥
-  FieldsFit U P (field x p V fs) n v = MatchBool (same_name n x) (Fits U P V v) (FieldsFit U P fs n v)
+  FieldsFit U P (field x p V fs) n v = MatchBool (same_name n x) (ValueFits U P V v) (FieldsFit U P fs n v)
 
   pub ChoiceFits : (Typed → Type 0) → (List ℕ → Typed → Type 0) → Choice → Option Tag → List ℕ → Typed → Type 0
   ChoiceFits U P (choice tag cs kept) (Some t) n v = CasesFit U P t.1 cs n v
@@ -109,7 +110,7 @@ abbrev mutual
 
 -- the value has the template's shape: anything may stand at `any` and at unknown names, and no node's body is looked at
 abbrev pub Shape : Template → Typed → Type 0
-Shape V v = Fits (λ _. Unit {0}) (λ n w. Unit {0}) V v
+Shape V v = ValueFits (λ _. Unit {0}) (λ n w. Unit {0}) V v
 
 -- the tree of the value is of the form
 abbrev pub IsOfForm : Form → Typed → Type 0
@@ -122,7 +123,7 @@ IsAtomOf form v = IsAtom (λ t. IsTrue (is_in_form form t)) v
 -- the value is one of the body of n, with at most k nodes on each way down
 abbrev pub FitWithin : (Typed → Type 0) → (List ℕ → Template) → ℕ → List ℕ → Typed → Type 0
 FitWithin U body zero n v = ⊥
-FitWithin U body (suc k) n v = Fits U (FitWithin U body k) (body n) v
+FitWithin U body (suc k) n v = ValueFits U (FitWithin U body k) (body n) v
 
 abbrev pub FitBy : (Typed → Type 0) → (List ℕ → Template) → List ℕ → Typed → Type 0
 FitBy U body n v = FitWithin U body (typed_size v) n v

@@ -1,8 +1,7 @@
 -- The parts of a record value and of a node, and what a record value keeps.
 use Rattle.std.specs.Prelude.{◌≡◌, ℕ, suc, ◌+◌, List, [], ◌∷◌, ◌++◌, false, Option, Some, None}
 use Rattle.std.specs.Map.{keys_of}
-use Rattle.mig_model.specs.Ascends.{Ascends}
-use Rattle.mig_model.specs.Family.{has_twice}
+use Rattle.mig_model.specs.Names.{Ascends, has_twice}
 use Rattle.mig_value.specs.Typed.{Typed, rec, Slot, Tag, slots_of, typed_size, slot_list_size}
 
 pub record RecordParts : Type 0 where
@@ -23,7 +22,7 @@ abbrev pub names_in : RecordParts → List (List ℕ)
 names_in p = keys_of p.fields ++ (tag_name p.tag ++ (keys_of p.cased ++ keys_of p.rest))
 
 -- each list of slots ascends by name, and all names are distinct
-pub record IsRecord (p : RecordParts) : Type 0 where
+pub record IsRecordValue (p : RecordParts) : Type 0 where
   pub fields : Ascends p.fields
   pub cased : Ascends p.cased
   pub rest : Ascends p.rest

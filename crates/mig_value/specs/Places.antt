@@ -1,7 +1,7 @@
 -- Where a name stands in a record value, and the value there.
 use Rattle.std.specs.Prelude.{ℕ, zero, suc, ◌<◌, List, [], ◌∷◌, length, Option, Some, None, option_map, if◌then◌else◌}
 use Rattle.mig_model.specs.Plain as plain
-use Rattle.mig_model.specs.Template.{same_name}
+use Rattle.mig_model.specs.Names.{same_name}
 use Rattle.mig_value.specs.declared.place.SlotPlace.{SlotPlace}
 use Rattle.mig_value.specs.declared.place.SlotPlace.TheVariants.{Field, Cased}
 use Rattle.mig_value.specs.Typed.{Typed, atom, Slot}
@@ -30,8 +30,8 @@ first_place (Some n) o = Some (Field n)
 first_place None o = option_map (λ n. Cased n) o
 
 -- where the name is among the fields and the fields of the case
-abbrev pub place_of : List ℕ → RecordParts → Option SlotPlace
-place_of x p = first_place (place_in x p.fields) (place_in x p.cased)
+abbrev pub slot_place : List ℕ → RecordParts → Option SlotPlace
+slot_place x p = first_place (place_in x p.fields) (place_in x p.cased)
 
 abbrev pub IsPlace : SlotPlace → RecordParts → Type 0
 IsPlace (Field n) p = n < length p.fields

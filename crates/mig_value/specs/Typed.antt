@@ -2,7 +2,7 @@
 use Rattle.std.specs.Prelude.{ℕ, suc, ◌+◌, List, [], ◌∷◌, ◌++◌, Option, Some, None}
 use Rattle.mig_model.specs.Plain as plain
 use Rattle.mig_model.specs.Plain.{Plain, Trees, no_tree, tree, pairs_of}
-use Rattle.mig_model.specs.Names.{with_pair}
+use Rattle.mig_model.specs.Names.{put}
 
 -- the tag's name, and the literal that stands there
 abbrev pub Tag : Type 0
@@ -50,7 +50,7 @@ slots (slot n v ss) = (n, v) ∷ slots ss
 -- pairs in the order of their names
 abbrev pub in_order : List (List ℕ × Plain) → List (List ℕ × Plain)
 in_order [] = []
-in_order (p ∷ ps) = with_pair p.0 p.1 (in_order ps)
+in_order (p ∷ ps) = put p.0 p.1 (in_order ps)
 
 abbrev pub tag_pair : Option Tag → List (List ℕ × Plain)
 tag_pair None = []

@@ -25,9 +25,9 @@ impl<'a> Model for ValueBox<'a> {
 
     ghost view = { λ a. typed_of a.value.value };
 
-    ghost use Rattle.mig_value.specs.Kept.{IsKept};
+    ghost use Rattle.mig_value.specs.Kept.{ValueKept};
 
-    ghost invariant = { λ a. IsKept (typed_of a.value.value) };
+    ghost invariant = { λ a. ValueKept (typed_of a.value.value) };
 
     ghost use Rattle.mig_value.specs.Typed.{typed_size};
 
@@ -40,7 +40,7 @@ impl<'a> Model for ValueBox<'a> {
 }
 
 impl<'a> ValueBox<'a> {
-    ghost use Rattle.mig_value.specs.Kept.{IsKept};
+    ghost use Rattle.mig_value.specs.Kept.{ValueKept};
     ghost use Rattle.mig_value.specs.View.{typed_of};
 
     /// The value, on the heap.
@@ -56,7 +56,7 @@ impl<'a> ValueBox<'a> {
     /// The value itself.
     pub fn get(&self) -> &Value<'a>
         ensures value { typed_of result.now ≡ self.now }
-        ensures keep { IsKept self.now }
+        ensures keep { ValueKept self.now }
     {
         &*self.value
     }

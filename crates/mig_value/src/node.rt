@@ -25,9 +25,9 @@ impl<'a> Model for Node<'a> {
 
     ghost view = { λ a. (a.name, typed_of a.body) };
 
-    ghost use Rattle.mig_value.specs.Kept.{IsKept};
+    ghost use Rattle.mig_value.specs.Kept.{ValueKept};
 
-    ghost invariant = { λ a. IsKept (typed_of a.body) };
+    ghost invariant = { λ a. ValueKept (typed_of a.body) };
 
     ghost use Rattle.mig_value.specs.Parts.{node_size};
 
@@ -42,7 +42,7 @@ impl<'a> Model for Node<'a> {
 impl<'a> Node<'a> {
     ghost use Rattle.mig_model.specs.Plain.{null};
     ghost use Rattle.mig_value.specs.Typed.{atom};
-    ghost use Rattle.mig_value.specs.Kept.{IsKept};
+    ghost use Rattle.mig_value.specs.Kept.{ValueKept};
     ghost use Rattle.mig_value.specs.View.{typed_of};
 
     /// A node of the named type with this body.
@@ -106,7 +106,7 @@ impl<'a> Node<'a> {
 
     /// Does nothing. Its contract tells what every node keeps at every depth.
     pub fn keeps(&self)
-        ensures { IsKept self.now.1 }
+        ensures { ValueKept self.now.1 }
     {
         let _name = &self.name;
     }

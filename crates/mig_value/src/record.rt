@@ -28,9 +28,9 @@ impl<'a> Model for RecValue<'a> {
 
     ghost view = { λ a. with_besides a.fields (beside a.extras) };
 
-    ghost use Rattle.mig_value.specs.Kept.{RecordKept};
+    ghost use Rattle.mig_value.specs.Kept.{RecordValueKept};
 
-    ghost invariant = { λ a. RecordKept (with_besides a.fields (beside a.extras)) };
+    ghost invariant = { λ a. RecordValueKept (with_besides a.fields (beside a.extras)) };
 
     ghost use Rattle.mig_value.specs.Parts.{record_size};
 
@@ -43,10 +43,10 @@ impl<'a> Model for RecValue<'a> {
 
 impl<'a> RecValue<'a> {
     ghost use Rattle.std.specs.Prelude.{false};
-    ghost use Rattle.mig_model.specs.Family.{has_twice};
+    ghost use Rattle.mig_model.specs.Names.{has_twice};
     ghost use Rattle.mig_value.specs.Parts.{names_in};
-    ghost use Rattle.mig_value.specs.Kept.{RecordKept};
-    ghost use Rattle.mig_value.specs.Places.{place_in, place_of, IsPlace, value_there, with_value_there};
+    ghost use Rattle.mig_value.specs.Kept.{RecordValueKept};
+    ghost use Rattle.mig_value.specs.Places.{place_in, slot_place, IsPlace, value_there, with_value_there};
     ghost use Rattle.mig_value.specs.View.{typed_of, slot_of};
     ghost use Rattle.mig_value.specs.declared.place.SlotPlace.TheVariants.{Cased};
 
@@ -130,7 +130,7 @@ impl<'a> RecValue<'a> {
 
     /// Where the name is among the fields and the fields of the case. It takes log n comparisons.
     pub fn place(&self, name: &[u8]) -> Option<SlotPlace>
-        ensures { result ≡ place_of name.now self.now }
+        ensures { result ≡ slot_place name.now self.now }
     {
         match self.fields.place(name) {
             Some(at) => Some(SlotPlace::Field(at)),
@@ -167,7 +167,7 @@ impl<'a> RecValue<'a> {
         ensures tag { result.1 ≡ self.entry.tag }
         ensures cased { result.2 ≡ self.entry.cased }
         ensures rest { result.3 ≡ self.entry.rest }
-        ensures keep { RecordKept self.entry }
+        ensures keep { RecordValueKept self.entry }
     {
         let RecValue { fields, extras } = self;
         let ExtraParts { tag, cased, rest } = unboxed(alloc, extras);
@@ -176,7 +176,7 @@ impl<'a> RecValue<'a> {
 
     /// Does nothing. Its contract tells what every record value keeps at every depth.
     pub fn keeps(&self)
-        ensures { RecordKept self.now }
+        ensures { RecordValueKept self.now }
     {
         let _fields = &self.fields;
     }

@@ -1,6 +1,6 @@
 //! The slots of a record value, in the order of their names.
 ghost use Rattle.std.specs.Prelude.{◌≡◌, ◌<◌, [], eqb, length, map};
-ghost use Rattle.mig_model.specs.Ascends.{Ascends};
+ghost use Rattle.mig_model.specs.Names.{Ascends};
 
 use crate::keeping::slots_are_kept;
 use crate::{Text, Value};

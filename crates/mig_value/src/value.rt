@@ -22,12 +22,12 @@ impl<'a> Value<'a> {
     ghost use Rattle.std.specs.Prelude.{◌≡◌, None, Some, IfErr, IfOk};
     ghost use Rattle.mig_tree.specs.View.{plain_of};
     ghost use Rattle.mig_value.specs.Leaf.{leaf_of};
-    ghost use Rattle.mig_value.specs.Kept.{IsKept};
+    ghost use Rattle.mig_value.specs.Kept.{ValueKept};
     ghost use Rattle.mig_value.specs.View.{typed_of};
 
     /// Does nothing. Its contract tells what every value keeps at every depth.
     pub fn keeps(&self)
-        ensures { IsKept (typed_of self.now) }
+        ensures { ValueKept (typed_of self.now) }
     {
         match self {
             Value::Atom(tree) => tree.keeps(),

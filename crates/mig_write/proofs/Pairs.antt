@@ -3,13 +3,12 @@ use Rattle.std.proofs.Common.{◌≡◌, ℕ, List, [], ◌∷◌, ◌++◌, fal
 use Rattle.std.specs.Prelude.{IsPermutation}
 use Rattle.std.specs.Map.{keys_of}
 use Rattle.mig_model.specs.Plain.{Plain}
-use Rattle.mig_model.specs.Names.{IsNamed}
-use Rattle.mig_model.specs.Family.{has_twice}
+use Rattle.mig_model.specs.Names.{Ascends, has_twice}
 use Rattle.mig_model.proofs.Ascending.{gathered_if_apart, gathered_sound}
 use Rattle.mig_template.proofs.Names.{apart_if_once}
 use Rattle.mig_value.specs.Typed as typed
 use Rattle.mig_value.specs.Typed.{Tag, out, out_slots, slots_of, tag_pair}
-use Rattle.mig_value.specs.Parts.{RecordParts, IsRecord, names_in, tag_name}
+use Rattle.mig_value.specs.Parts.{RecordParts, IsRecordValue, names_in, tag_name}
 use Rattle.mig_write.specs.Lists.{pairs_in}
 use Rattle.mig_model.proofs.Entries.{keys_append}
 
@@ -29,7 +28,7 @@ pair_keys p =
     ∙ (λ i. keys_of p.fields ++ (tag_name p.tag ++ (slot_keys p.cased i ++ slot_keys p.rest i)))
 
 -- there is an order
-pub has_order : (p : RecordParts) → IsRecord p → (ps : List (List ℕ × Plain)) × IsPermutation (pairs_in p) ps × IsNamed ps
+pub has_order : (p : RecordParts) → IsRecordValue p → (ps : List (List ℕ × Plain)) × IsPermutation (pairs_in p) ps × Ascends ps
 has_order p r =
     let once : has_twice (keys_of (pairs_in p)) ≡ false = ap has_twice (pair_keys p) ∙ r.distinct in
     let g = gathered_if_apart (pairs_in p) (apart_if_once (keys_of (pairs_in p)) once) in

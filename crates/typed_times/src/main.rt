@@ -12,6 +12,7 @@ ghost use Rattle.mig_value.specs.View.{typed_of};
 ghost use Rattle.typed_times.specs.Parts.{IsSave, IsWritten};
 
 use mig_files::{Files, HostFiles};
+use mig_model::MOST_SAVE_BYTES;
 use mig_schema::{Family, Form};
 use mig_tree::{Steps, Text, Tree};
 use mig_value::Value;
@@ -20,9 +21,6 @@ use std::env;
 use std::marker::Brand;
 use std::process::ExitCode;
 use std::sync::ledger::{Blank, Ledger};
-
-/// A save has at most this many bytes.
-const MOST_BYTES: usize = 16_777_216;
 
 /// The name and the tree of a save.
 fn save<'a>(alloc: Global, bytes: &'a [u8]) -> Option<(Text<'a>, Tree<'a>)>
@@ -154,7 +152,7 @@ fn run_on_host<L: Ledger>(rt: &HostRuntime, words: &[String], blank: Blank) -> O
     let family = shapes::family(alloc, shape.as_str())?;
     let mut files = HostFiles::new(rt.clone().ok()?);
     let bytes = files
-        .read(alloc, folder.as_str(), name.as_str(), MOST_BYTES)
+        .read(alloc, folder.as_str(), name.as_str(), MOST_SAVE_BYTES)
         .ok()?;
     Some(is_done::<L>(alloc, part.as_str(), &family, &bytes, blank))
 }

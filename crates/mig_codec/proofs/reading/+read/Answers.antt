@@ -1,6 +1,6 @@
-use Rattle.std.proofs.Common.{rules, ◌≡◌, ◌∙◌, ◌≤◌, ◌*◌, ◌++◌, ◌∷◌, [], List, map, length, None, true, false, refl, sym, ap, subst, arith}
+use Rattle.std.proofs.Common.{rules, ◌≡◌, ◌∙◌, ◌*◌, ◌++◌, ◌∷◌, [], List, map, length, None, true, false, refl, sym, ap, subst, arith}
 use Rattle.std.specs.Prelude.{option_map}
-use Rattle.mig_model.specs.Place.{under, wrong_item}
+use Rattle.mig_model.specs.Place.{place_under, wrong_item}
 use Rattle.mig_model.specs.Plain as plain
 use Rattle.mig_model.specs.Plain.{Plain, size, items_size, entries_size, trees_of, pairs_of}
 use Rattle.mig_model.specs.Kinds.{kind_of}
@@ -31,7 +31,7 @@ use Rattle.mig_codec.proofs.ItemLoop.{one_more_item, item_wrong}
 use Rattle.mig_codec.proofs.PairLoop.{pair_in_hand}
 use Rattle.mig_model.proofs.Loops.{in_hand, all_behind}
 use Rattle.mig_codec.proofs.Measures.{less_work, less_tree, item_within, entry_within, rank_body, rank_side, width}
-use Rattle.mig_codec.proofs.PartsOf.{list_part, body_part, left_part, right_part}
+use Rattle.mig_codec.proofs.PartsOf.{list_part, body_part, sum_parts}
 use Rattle.mig_codec.proofs.RowEnd.{record_end, row_end}
 use Rattle.mig_codec.proofs.RowLoop.{one_more_pair}
 use Rattle.mig_codec.proofs.ReadOf.{list_stops, list_read, node_stops, node_read, point_read, left_read, right_read, record_read, tag_at, pair_stops}
@@ -46,8 +46,7 @@ read_entry-read_under-requires t c =
     let here : belongs (row_view c.args.row.now) c.args.entry.name ≡ common V = ap (belongs (row_view c.args.row.now)) (sym c.bytes.ensures) ∙ sym c.in-Common.ensures in
     let found = common_found (row_view c.args.row.now) c.args.entry.name V here in
     let part = c.requires.row.fields c.args.entry.name found.0 V found.1 in
-    let self : size (plain_of c.args.entry.tree) ≤ size (plain_of c.args.entry.tree) = omega arith in
-    (omega (arith, less_work f V (plain_of c.args.entry.tree) (size (plain_of c.args.entry.tree)) part.size self), (part, c.requires.form))
+    (omega (arith, less_work f V (plain_of c.args.entry.tree) (size (plain_of c.args.entry.tree)) part.size (omega arith)), (part, c.requires.form))
 
 pub read_entry-read_under-requires-in-Cased : goal.read_entry-read_under-requires-in-Cased
 read_entry-read_under-requires-in-Cased t c =
@@ -56,16 +55,14 @@ read_entry-read_under-requires-in-Cased t c =
     let here : belongs (row_view c.args.row.now) c.args.entry.name ≡ cased V = ap (belongs (row_view c.args.row.now)) (sym c.bytes.ensures) ∙ sym c.in-Cased.ensures in
     let found = cased_found (row_view c.args.row.now) c.args.entry.name V here in
     let part = c.requires.row.cased c.args.entry.name found.0 V found.1 in
-    let self : size (plain_of c.args.entry.tree) ≤ size (plain_of c.args.entry.tree) = omega arith in
-    (omega (arith, less_work f V (plain_of c.args.entry.tree) (size (plain_of c.args.entry.tree)) part.size self), (part, c.requires.form))
+    (omega (arith, less_work f V (plain_of c.args.entry.tree) (size (plain_of c.args.entry.tree)) part.size (omega arith)), (part, c.requires.form))
 
 pub read_items-read_part-requires : goal.read_items-read_part-requires
 read_items-read_part-requires t c =
     let f = c.args.family.now in
     let V = template_of c.args.part.now in
     let all = c.into_vec-item-items.result.items in
-    let as_long : c.into_iter-item-iterator.result.rest.len ≡ length all = search rules in
-    let here = in_hand c.into_iter-item-iterator.result c.loop-item.item-iterator c.next.new.self all c.loop-item.yielded c.in-Some.item c.into_iter-item-iterator.ensures.into_iter_gives.0 as_long c.loop-item.yielded_by c.next.result c.in-Some.is c.next.ensures.steps in
+    let here = in_hand c.into_iter-item-iterator.result c.loop-item.item-iterator c.next.new.self all c.loop-item.yielded c.in-Some.item c.into_iter-item-iterator.ensures.into_iter_gives.0 (search rules) c.loop-item.yielded_by c.next.result c.in-Some.is c.next.ensures.steps in
     let within = item_within all c.loop-item.yielded c.in-Some.item here in
     let items = c.into_vec-item-items.ensures.items in
     let form : items_in_form f.form (trees_of (map plain_of all)) ≡ true = ap (λ ts. items_in_form f.form (trees_of ts)) items ∙ c.requires.form in
@@ -89,8 +86,7 @@ read_items-returns-in-Err t c =
     let all = c.into_vec-item-items.result.items in
     let ys = c.loop-item.yielded in
     let x = c.in-Some.item in
-    let as_long : c.into_iter-item-iterator.result.rest.len ≡ length all = search rules in
-    let here = in_hand c.into_iter-item-iterator.result c.loop-item.item-iterator c.next.new.self all ys x c.into_iter-item-iterator.ensures.into_iter_gives.0 as_long c.loop-item.yielded_by c.next.result c.in-Some.is c.next.ensures.steps in
+    let here = in_hand c.into_iter-item-iterator.result c.loop-item.item-iterator c.next.new.self all ys x c.into_iter-item-iterator.ensures.into_iter_gives.0 (search rules) c.loop-item.yielded_by c.next.result c.in-Some.is c.next.ensures.steps in
     let whole : c.args.items ≡ map plain_of ys ++ plain_of x ∷ map plain_of here.0 = sym c.into_vec-item-items.ensures.items ∙ ap (λ (l : List Tree). map plain_of l) here.1 ∙ map-append plain_of ys (x ∷ here.0) in
     let count : length (map plain_of ys) ≡ c.len-in-Err.result = omega (arith, c.loop-item.invariant.count, length-map c.loop-item.values.items typed_of, c.len-in-Err.ensures) in
     subst (λ ts. StopsAt c.below.result (wrong_item (wrong_part f V) 0 ts)) (sym whole)
@@ -187,13 +183,13 @@ read_node-returns-in_ok-value-in-Some t c =
 pub read_sum-read_part-requires : goal.read_sum-read_part-requires
 read_sum-read_part-requires t c =
     let f = c.args.family.now in
-    let side = left_part f (template_of c.args.left.now) (template_of c.args.right.now) c.requires.part in
+    let side = (sum_parts f (template_of c.args.left.now) (template_of c.args.right.now) c.requires.part).0 in
     (omega (arith, rank_side f (template_of c.args.left.now) side.1), (side.0, c.requires.form))
 
 pub read_sum-read_part-requires-then-has-2 : goal.read_sum-read_part-requires-then-has-2
 read_sum-read_part-requires-then-has-2 t c =
     let f = c.args.family.now in
-    let side = right_part f (template_of c.args.left.now) (template_of c.args.right.now) c.requires.part in
+    let side = (sum_parts f (template_of c.args.left.now) (template_of c.args.right.now) c.requires.part).1 in
     (omega (arith, rank_side f (template_of c.args.right.now) side.1), (side.0, c.requires.form))
 
 pub read_row-read_entry-requires : goal.read_row-read_entry-requires
@@ -203,9 +199,8 @@ read_row-read_entry-requires t c =
     let all = c.into_vec-entry-items.result.items in
     let ys = c.loop-entry.yielded in
     let x = c.in-Some.entry in
-    let as_long : c.into_iter-entry-iterator.result.rest.len ≡ length all = search rules in
     let here = pair_in_hand c.args.entries all ys x c.into_vec-entry-items.ensures.pairs c.into_vec-entry-items.ensures.keep.0
-    (in_hand c.into_iter-entry-iterator.result c.loop-entry.entry-iterator c.next.new.self all ys x c.into_iter-entry-iterator.ensures.into_iter_gives.0 as_long c.loop-entry.yielded_by c.next.result c.in-Some.is c.next.ensures.steps) in
+    (in_hand c.into_iter-entry-iterator.result c.loop-entry.entry-iterator c.next.new.self all ys x c.into_iter-entry-iterator.ensures.into_iter_gives.0 (search rules) c.loop-entry.yielded_by c.next.result c.in-Some.is c.next.ensures.steps) in
     let pairs = c.into_vec-entry-items.ensures.pairs in
     let within = entry_within all ys x (here.behind, here.is) in
     let form : entries_in_form f.form (pairs_of (map entry_of all)) ≡ true = ap (λ es. entries_in_form f.form (pairs_of es)) pairs ∙ c.requires.form in (
@@ -220,9 +215,8 @@ read_row-loop-entry-preserved t c =
     let all = c.into_vec-entry-items.result.items in
     let ys = c.loop-entry.yielded in
     let x = c.in-Some.entry in
-    let as_long : c.into_iter-entry-iterator.result.rest.len ≡ length all = search rules in
     let here = pair_in_hand c.args.entries all ys x c.into_vec-entry-items.ensures.pairs c.into_vec-entry-items.ensures.keep.0
-    (in_hand c.into_iter-entry-iterator.result c.loop-entry.entry-iterator c.next.new.self all ys x c.into_iter-entry-iterator.ensures.into_iter_gives.0 as_long c.loop-entry.yielded_by c.next.result c.in-Some.is c.next.ensures.steps) in
+    (in_hand c.into_iter-entry-iterator.result c.loop-entry.entry-iterator c.next.new.self all ys x c.into_iter-entry-iterator.ensures.into_iter_gives.0 (search rules) c.loop-entry.yielded_by c.next.result c.in-Some.is c.next.ensures.steps) in
     let more : map entry_of (ys ++ x ∷ []) ≡ map entry_of ys ++ entry_of x ∷ [] = map-append entry_of ys (x ∷ []) in
     let made : pieces_of c.add.new.self ≡ added (pieces_of c.loop-entry.pieces) c.in-Ok.placed = c.in_ok-add-in-Ok.ensures in
     subst (λ es. Gathered f row es (pieces_of c.add.new.self)) (sym more)
@@ -236,14 +230,13 @@ read_row-returns-in-Err t c =
     let all = c.into_vec-entry-items.result.items in
     let ys = c.loop-entry.yielded in
     let x = c.in-Some.entry in
-    let as_long : c.into_iter-entry-iterator.result.rest.len ≡ length all = search rules in
     let here = pair_in_hand c.args.entries all ys x c.into_vec-entry-items.ensures.pairs c.into_vec-entry-items.ensures.keep.0
-    (in_hand c.into_iter-entry-iterator.result c.loop-entry.entry-iterator c.next.new.self all ys x c.into_iter-entry-iterator.ensures.into_iter_gives.0 as_long c.loop-entry.yielded_by c.next.result c.in-Some.is c.next.ensures.steps) in
+    (in_hand c.into_iter-entry-iterator.result c.loop-entry.entry-iterator c.next.new.self all ys x c.into_iter-entry-iterator.ensures.into_iter_gives.0 (search rules) c.loop-entry.yielded_by c.next.result c.in-Some.is c.next.ensures.steps) in
     let before = missing_view c.earlier-before.result in
     let is : before ≡ earlier x.name (missing_in row (map entry_of ys ++ entry_of x ∷ map entry_of here.behind)) =
     c.earlier-before.ensures ∙ (λ i. earlier (c.bytes.ensures i) (c.missing-missing.ensures i)) ∙ ap (λ es. earlier x.name (missing_in row es)) here.whole in
     subst (λ es. StopsAt c.first_of.result (wrong_row f row es)) (sym here.whole)
-    (stop_passes c.in-Err.stop c.first_of.result (or_first before) refl c.first_of.ensures (under (below_name x.name (wrong_pair f row x.name (plain_of x.tree)))) (wrong_row f row (map entry_of ys ++ entry_of x ∷ map entry_of here.behind)) c.in-Err.ensures
+    (stop_passes c.in-Err.stop c.first_of.result (or_first before) refl c.first_of.ensures (place_under (below_name x.name (wrong_pair f row x.name (plain_of x.tree)))) (wrong_row f row (map entry_of ys ++ entry_of x ∷ map entry_of here.behind)) c.in-Err.ensures
     (pair_stops f row (map entry_of ys) (map entry_of here.behind) x.name (plain_of x.tree) before c.loop-entry.invariant.right is))
 
 pub read_row-into_record-requires : goal.read_row-into_record-requires
@@ -251,8 +244,7 @@ read_row-into_record-requires t c =
     let f = c.args.family.now in
     let row = row_view c.args.row.now in
     let all = c.into_vec-entry-items.result.items in
-    let as_long : c.into_iter-entry-iterator.result.rest.len ≡ length all = search rules in
-    let done = all_behind c.into_iter-entry-iterator.result c.loop-entry.entry-iterator c.next.new.self all c.loop-entry.yielded c.into_iter-entry-iterator.ensures.into_iter_gives.0 as_long c.loop-entry.yielded_by c.next.result c.in-None.is c.next.ensures.steps in
+    let done = all_behind c.into_iter-entry-iterator.result c.loop-entry.entry-iterator c.next.new.self all c.loop-entry.yielded c.into_iter-entry-iterator.ensures.into_iter_gives.0 (search rules) c.loop-entry.yielded_by c.next.result c.in-None.is c.next.ensures.steps in
     let whole : map entry_of c.loop-entry.yielded ≡ c.args.entries = ap (λ (l : List Entry). map entry_of l) done ∙ c.into_vec-entry-items.ensures.pairs in
     record_end f row c.args.entries (pieces_of c.loop-entry.pieces) (subst (λ es. Gathered f row es (pieces_of c.loop-entry.pieces)) whole c.loop-entry.invariant) c.into_vec-entry-items.ensures.keep.0
 
@@ -261,8 +253,7 @@ read_row-returns t c =
     let f = c.args.family.now in
     let row = row_view c.args.row.now in
     let all = c.into_vec-entry-items.result.items in
-    let as_long : c.into_iter-entry-iterator.result.rest.len ≡ length all = search rules in
-    let done = all_behind c.into_iter-entry-iterator.result c.loop-entry.entry-iterator c.next.new.self all c.loop-entry.yielded c.into_iter-entry-iterator.ensures.into_iter_gives.0 as_long c.loop-entry.yielded_by c.next.result c.in-None.is c.next.ensures.steps in
+    let done = all_behind c.into_iter-entry-iterator.result c.loop-entry.entry-iterator c.next.new.self all c.loop-entry.yielded c.into_iter-entry-iterator.ensures.into_iter_gives.0 (search rules) c.loop-entry.yielded_by c.next.result c.in-None.is c.next.ensures.steps in
     let whole : map entry_of c.loop-entry.yielded ≡ c.args.entries = ap (λ (l : List Entry). map entry_of l) done ∙ c.into_vec-entry-items.ensures.pairs in
     let none : missing_in row c.args.entries ≡ None = sym c.missing-missing.ensures ∙ ap missing_view c.in-None-missing.is in
     subst (IsRowRead f row c.args.entries) (sym c.in_ok-parts-in-None-missing.ensures)

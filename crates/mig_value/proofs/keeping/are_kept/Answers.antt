@@ -1,12 +1,12 @@
 use Rattle.std.proofs.Common.{◌≡◌, ◌+◌, ◌∷◌, ◌++◌, [], List, map, take, subst, sym, ap, ◌∙◌}
 use Rattle.std.proofs.lemmas.List.{take_more}
 use Rattle.mig_value.specs.Typed.{items_of}
-use Rattle.mig_value.specs.Kept.{IsKept, ItemsKept}
+use Rattle.mig_value.specs.Kept.{ValueKept, ItemsKept}
 use Rattle.mig_value.specs.View.{typed_of}
 use Rattle.mig_value.specs.declared.value.Value.{Value}
 use Rattle.mig_value.proofs.keeping.are_kept.Goals as goal
 
-keeps_more : (xs : List Value) (v : Value) → ItemsKept (items_of (map typed_of xs)) → IsKept (typed_of v) → ItemsKept (items_of (map typed_of (xs ++ v ∷ [])))
+keeps_more : (xs : List Value) (v : Value) → ItemsKept (items_of (map typed_of xs)) → ValueKept (typed_of v) → ItemsKept (items_of (map typed_of (xs ++ v ∷ [])))
 keeps_more [] v k h = (h, tt)
 keeps_more (x ∷ xs) v k h = (k.0, keeps_more xs v k.1 h)
 

@@ -1,6 +1,6 @@
 use Rattle.std.proofs.Common.{◌≡◌, ◌<◌, ◌∙◌, sym, ap, subst, length, map, slice_set, arith}
 use Rattle.std.proofs.lemmas.List.{length-map}
-use Rattle.mig_value.specs.Kept.{IsKept, SlotListKept}
+use Rattle.mig_value.specs.Kept.{ValueKept, SlotListKept}
 use Rattle.mig_value.specs.Places.{value_at, with_value_at}
 use Rattle.mig_value.specs.View.{typed_of, slot_of}
 use Rattle.mig_value.specs.declared.slots.Slot as code
@@ -13,7 +13,7 @@ invariant_of-self c =
     let old = c.index_mut.result.now in
     let t : code.Slot = record { name = old.name; value = c.replace.new.dest } in
     let is : map slot_of (slice_set xs c.args.at t) ≡ with_value_at c.args.at (typed_of t.value) (map slot_of xs) = slot_set xs c.args.at old t (ap (λ (s : code.Slot). s.name) c.index_mut.ensures.value) in
-    let kept : IsKept (typed_of t.value) = subst (λ v. IsKept (typed_of v)) (sym c.replace.ensures.after) c.keeps.ensures in
+    let kept : ValueKept (typed_of t.value) = subst (λ v. ValueKept (typed_of v)) (sym c.replace.ensures.after) c.keeps.ensures in
     subst SlotListKept (sym is) (list_kept c.args.at (typed_of t.value) (map slot_of xs) kept c.self.invariant)
 
 pub returns-clause-value : goal.returns-clause-value

@@ -1,17 +1,17 @@
 -- The law of places, by induction over the template.
-use Rattle.std.proofs.Common.{◌≡◌, ◌∙◌, refl, sym, ap, subst, ℕ, List, [], ◌∷◌, ◌++◌, Bool, true, false, Option, Some, None, MatchBool}
+use Rattle.std.proofs.Common.{◌≡◌, ◌∙◌, refl, sym, ap, ℕ, List, [], ◌∷◌, ◌++◌, Bool, true, false, Option, Some, None, MatchBool}
 use Rattle.std.specs.Prelude.{◌||◌, if◌then◌else◌}
 use Rattle.std.specs.List.{AllByRecursion, flat_map, list_any}
 use Rattle.mig_model.proofs.Ascending.{flips}
 use Rattle.mig_model.specs.declared.presence.Presence.{Presence}
-use Rattle.mig_model.specs.Family.{has_twice}
+use Rattle.mig_model.specs.Names.{has_twice, same_name, is_among}
 use Rattle.mig_model.specs.Inhabits.{has_musts}
 use Rattle.mig_model.specs.Template as template
-use Rattle.mig_model.specs.Template.{Template, Fields, no_field, field, field_list, Choice, no_choice, choice, Cases, no_case, case, case_list, same_name}
-use Rattle.mig_template.specs.Kept.{IsKept, FieldsKept, ChoiceKept, CasesKept}
-use Rattle.mig_template.specs.Parts.{is_among, has_twice_in, cases_in, is_twice_named}
+use Rattle.mig_model.specs.Template.{Template, Fields, no_field, field, field_list, Choice, no_choice, choice, Cases, no_case, case, case_list}
+use Rattle.mig_template.specs.Kept.{TemplateKept, FieldsKept, ChoiceKept, CasesKept}
+use Rattle.mig_template.specs.Parts.{has_twice_in, cases_in, is_twice_named}
 use Rattle.mig_value.specs.Typed.{Typed, list, left, right, rec, Items, no_item, item, items, Slots, Tag, out_slots}
-use Rattle.mig_value.specs.Fit.{Fits, FieldsFit, CasesFit, EachItem, EachSlot, TagFits, has_case_musts, has_cased_musts, ChoiceFits}
+use Rattle.mig_value.specs.Fit.{ValueFits, FieldsFit, CasesFit, EachItem, EachSlot, TagFits, has_case_musts, has_cased_musts, ChoiceFits}
 use Rattle.mig_path.specs.declared.side.Side.TheVariants.{Left, Right}
 use Rattle.mig_path.specs.Path.{Path, case_of, each, side, foci, Takes}
 use Rattle.mig_finder.specs.Places.{Place, behind, to_field, places, field_places, choice_places, case_places}
@@ -35,20 +35,25 @@ all_flat : {A B : Type 0} (Q : B → Type 0) (f : A → List B) (xs : List A) �
 all_flat Q f [] h = tt
 all_flat Q f (x ∷ xs) h = all_append Q (f x) (flat_map f xs) h.0 (all_flat Q f xs h.1)
 
-all_items : (Q R : Typed → Type 0) → ((v : Typed) → Q v → R v) → (vs : Items) → EachItem Q vs → AllByRecursion R (items vs)
+pub all_items : (Q R : Typed → Type 0) → ((v : Typed) → Q v → R v) → (vs : Items) → EachItem Q vs → AllByRecursion R (items vs)
 all_items Q R f no_item h = tt
 all_items Q R f (item v vs) h = (f v h.0, all_items Q R f vs h.1)
 
+-- the names of a record with a choice are apart
+pub all_distinct : (fs : Fields) (tg : List ℕ) (cs : Cases) (k : Bool) → is_twice_named (field_list fs) (cases_in (choice tg cs k)) ≡ false
+    → ((is_among (names fs) tg ≡ false) × (has_twice (names fs) ≡ false)) × ((list_any (has_twice_in (tg ∷ names fs)) (case_list cs) ≡ false) × (has_twice (literals cs) ≡ false))
+all_distinct fs tg cs k d =
+    let first = split_or (has_twice (tg ∷ names fs)) (list_any (has_twice_in (tg ∷ names fs)) (case_list cs) || has_twice (literals cs)) d in
+    (split_or (is_among (names fs) tg) (has_twice (names fs)) first.0, split_or (list_any (has_twice_in (tg ∷ names fs)) (case_list cs)) (has_twice (literals cs)) first.1)
+
 pub distinct_fields : (fs : Fields) (c : Choice) → is_twice_named (field_list fs) (cases_in c) ≡ false → has_twice (names fs) ≡ false
 distinct_fields fs no_choice d = d
-distinct_fields fs (choice tg cs k) d =
-    let first = split_or (has_twice (tg ∷ names fs)) (list_any (has_twice_in (tg ∷ names fs)) (case_list cs) || has_twice (literals cs)) d in
-    (split_or (is_among (names fs) tg) (has_twice (names fs)) first.0).1
+distinct_fields fs (choice tg cs k) d = (all_distinct fs tg cs k d).0.1
 
-pub distinct_cases : (fs : Fields) (tg : List ℕ) (cs : Cases) (k : Bool) → is_twice_named (field_list fs) (cases_in (choice tg cs k)) ≡ false → (list_any (has_twice_in (tg ∷ names fs)) (case_list cs) ≡ false) × (has_twice (literals cs) ≡ false)
-distinct_cases fs tg cs k d =
-    let first = split_or (has_twice (tg ∷ names fs)) (list_any (has_twice_in (tg ∷ names fs)) (case_list cs) || has_twice (literals cs)) d in
-    split_or (list_any (has_twice_in (tg ∷ names fs)) (case_list cs)) (has_twice (literals cs)) first.1
+-- what is asked of a value where its tag is the literal, that the optic to the case finds
+pub at_literal : (Z : Typed → Type 0) (v : Typed) (a b : Bool) → a ≡ b → (b ≡ true → Z v) → AllByRecursion Z (if a then v ∷ [] else [])
+at_literal Z v true b e f = (f (sym e), tt)
+at_literal Z v false b e f = tt
 
 module _ (U : Typed → Type 0) (P : List ℕ → Typed → Type 0) (x : List ℕ) where
   abbrev AllFind : Typed → List Place → Type 0
@@ -60,15 +65,15 @@ module _ (U : Typed → Type 0) (P : List ℕ → Typed → Type 0) (x : List �
   behind_fit o v (p ∷ ps) t h = (
     record {
       takes = (t, all_weaker (λ w. AllFind w (p ∷ ps)) (Takes p.0) (λ w k. k.0.takes) (foci o v) h);
-      fit = all_flat (Fits U P p.1) (foci p.0) (foci o v) (all_weaker (λ w. AllFind w (p ∷ ps)) (λ w. AllByRecursion (Fits U P p.1) (foci p.0 w)) (λ w k. k.0.fit) (foci o v) h);
+      fit = all_flat (ValueFits U P p.1) (foci p.0) (foci o v) (all_weaker (λ w. AllFind w (p ∷ ps)) (λ w. AllByRecursion (ValueFits U P p.1) (foci p.0 w)) (λ w k. k.0.fit) (foci o v) h);
     },
     behind_fit o v ps t (all_weaker (λ w. AllFind w (p ∷ ps)) (λ w. AllFind w ps) (λ w k. k.1) (foci o v) h),
   )
 
   -- the places of one field
-  field_fit : (b : Bool) (v : Typed) (y : List ℕ) (p : Presence) (V : Template) → FieldFinds U P v y p V → ((w : Typed) → Fits U P V w → AllFind w (places x V)) → AllFind v (if b then (to_field y p, V) ∷ [] else behind (to_field y p) (places x V))
+  field_fit : (b : Bool) (v : Typed) (y : List ℕ) (p : Presence) (V : Template) → FieldFinds U P v y p V → ((w : Typed) → ValueFits U P V w → AllFind w (places x V)) → AllFind v (if b then (to_field y p, V) ∷ [] else behind (to_field y p) (places x V))
   field_fit true v y p V h f = (h, tt)
-  field_fit false v y p V h f = behind_fit (to_field y p) v (places x V) h.takes (all_weaker (Fits U P V) (λ w. AllFind w (places x V)) f (foci (to_field y p) v) h.fit)
+  field_fit false v y p V h f = behind_fit (to_field y p) v (places x V) h.takes (all_weaker (ValueFits U P V) (λ w. AllFind w (places x V)) f (foci (to_field y p) v) h.fit)
 
   module _ (ss : Slots) (t : Tag) (zs rs : Slots) where
     abbrev whole : Typed
@@ -77,11 +82,7 @@ module _ (U : Typed → Type 0) (P : List ℕ → Typed → Type 0) (x : List �
     -- the places of one case: of all there are, where it has the literal, and else of nothing
     case_fit : (m : List ℕ) (ds : Fields) → (b : Bool) → same_name m t.1 ≡ b → (b ≡ true → AllFind whole (field_places x ds)) → AllFind whole (behind (case_of m) (field_places x ds))
     case_fit m ds b e f =
-        behind_fit (case_of m) whole (field_places x ds) refl (subst (λ (a : Bool). AllByRecursion (λ w. AllFind w (field_places x ds)) (if a then whole ∷ [] else [])) (sym e) (by b f))
-      where
-        by : (a : Bool) → (a ≡ true → AllFind whole (field_places x ds)) → AllByRecursion (λ w. AllFind w (field_places x ds)) (if a then whole ∷ [] else [])
-        by true g = (g refl, tt)
-        by false g = tt
+        behind_fit (case_of m) whole (field_places x ds) refl (at_literal (λ w. AllFind w (field_places x ds)) whole (same_name m t.1) b e f)
 
     -- cases of which none has the literal
     other_cases : (cs : Cases) → is_among (literals cs) t.1 ≡ false → AllFind whole (case_places x cs)
@@ -99,22 +100,20 @@ module _ (U : Typed → Type 0) (P : List ℕ → Typed → Type 0) (x : List �
         all_append (Finds U P whole) (behind (case_of m) (field_places x ds)) (case_places x cs) (case_fit m ds false (flips m t.1 ∙ e) (λ i. absurd cc)) (g h k)
 
   mutual
-    fit : (V : Template) (v : Typed) → IsKept V → Fits U P V v → AllFind v (places x V)
+    fit : (V : Template) (v : Typed) → TemplateKept V → ValueFits U P V v → AllFind v (places x V)
     fit (template.leaf k) v kept h = tt
     fit template.any v kept h = tt
     fit (template.point n) v kept h = tt
-    fit (template.list V) (list vs) kept h = behind_fit each (list vs) (places x V) tt (all_items (Fits U P V) (λ w. AllFind w (places x V)) (λ w k. fit V w kept k) vs h)
-    fit (template.list V) v kept h = absurd h
+    fit (template.list V) (list vs) kept h = behind_fit each (list vs) (places x V) tt (all_items (ValueFits U P V) (λ w. AllFind w (places x V)) (λ w k. fit V w kept k) vs h)
     fit (template.sum V W) (left v) kept h =
         all_append (Finds U P (left v)) (behind (side Left) (places x V)) (behind (side Right) (places x W)) (behind_fit (side Left) (left v) (places x V) tt (fit V v kept.0 h, tt)) (behind_fit (side Right) (left v) (places x W) tt tt)
     fit (template.sum V W) (right v) kept h =
         all_append (Finds U P (right v)) (behind (side Left) (places x V)) (behind (side Right) (places x W)) (behind_fit (side Left) (right v) (places x V) tt tt) (behind_fit (side Right) (right v) (places x W) tt (fit W v kept.1 h, tt))
-    fit (template.sum V W) v kept h = absurd h
     fit (template.rec fs c r) (rec ss tag zs rs) kept h =
         let musts = split_and (has_musts fs (out_slots ss)) (has_cased_musts c tag (out_slots zs)) h.1 in
         fit_choice c fs ss tag zs rs kept.1.1 kept.0.distinct h.0 musts.1 h.2 h.3
         (λ apart. fit_fields fs (rec ss tag zs rs) kept.1.0 (finds_common U P ss tag zs rs fs (distinct_fields fs c kept.0.distinct) musts.0 h.2 apart))
-    fit (template.rec fs c r) v kept h = absurd h
+    fit _ v kept h = absurd h
 
     -- the places of the fields of a record value, where each field's optic finds what it is to
     fit_fields : (fs : Fields) (v : Typed) → FieldsKept fs → EachField (FieldFinds U P v) fs → AllFind v (field_places x fs)
@@ -127,7 +126,7 @@ module _ (U : Typed → Type 0) (P : List ℕ → Typed → Type 0) (x : List �
         all_append (Finds U P (rec ss tag zs rs)) (field_places x fs) [] (f (weaker_slots (λ n w. ⊥) (λ n w. is_among (names fs) n ≡ false) (λ n w k. absurd k) zs h)) tt
     fit_choice (choice tg cs k) fs ss None zs rs kept d t m e h f = absurd t
     fit_choice (choice tg cs k) fs ss (Some t) zs rs kept d tag_fits m e h f =
-        let distinct = distinct_cases fs tg cs k d in
+        let distinct = (all_distinct fs tg cs k d).1 in
         all_append (Finds U P (rec ss (Some t) zs rs)) (field_places x fs) (case_places x cs)
         (f (weaker_slots (CasesFit U P t.1 cs) (λ n w. is_among (names fs) n ≡ false) (λ n w k. name_of_choice U P fs tg cs t n w distinct.0 k) zs h))
         (fit_cases cs (tg ∷ names fs) ss t zs rs kept distinct.0 distinct.1 (weaker_slots (FieldsFit U P fs) (λ n w. is_among (tg ∷ names fs) n ≡ true) (λ n w k. right_or (same_name n tg) (is_among (names fs) n) (name_of_field U P fs n w k)) ss e) h m)

@@ -2,7 +2,8 @@
 use Rattle.std.proofs.Common.{◌≡◌, ◌∙◌, sym, ap, ℕ, Bool, true, false, ◌+◌, ◌<◌, List, [], ◌∷◌, ◌++◌, length, map, drop, get_or}
 use Rattle.std.specs.Prelude.{if◌then◌else◌}
 use Rattle.std.proofs.lemmas.List.{append_assoc, at_drop_more, map-append}
-use Rattle.mig_model.specs.Template.{fields_of, cases_of, same_name}
+use Rattle.mig_model.specs.Template.{fields_of, cases_of}
+use Rattle.mig_model.specs.Names.{same_name}
 use Rattle.mig_template.specs.View.{template_of, field_of, case_of}
 use Rattle.mig_template.specs.declared.fields.Field.{Field}
 use Rattle.mig_template.specs.declared.record.Case.{Case}

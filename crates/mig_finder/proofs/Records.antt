@@ -7,14 +7,13 @@ use Rattle.std.specs.Option.{option_or}
 use Rattle.std.proofs.lemmas.Bool.{MatchBool-at_true, MatchBool-at_false}
 use Rattle.mig_model.specs.declared.presence.Presence.{Presence}
 use Rattle.mig_model.specs.declared.presence.Presence.TheVariants.{Must, May}
-use Rattle.mig_model.specs.Family.{has_twice}
+use Rattle.mig_model.specs.Names.{has_twice, under, same_name, is_among}
 use Rattle.mig_model.specs.Inhabits.{has_musts}
-use Rattle.mig_model.specs.Names.{found}
-use Rattle.mig_model.specs.Template.{Template, Fields, no_field, field, field_list, Cases, no_case, case, case_list, same_name, is_must}
-use Rattle.mig_template.specs.Parts.{is_among, has_twice_in}
+use Rattle.mig_model.specs.Template.{Template, Fields, no_field, field, field_list, Cases, no_case, case, case_list, is_must}
+use Rattle.mig_template.specs.Parts.{has_twice_in}
 use Rattle.mig_value.specs.Typed.{Typed, rec, Slots, no_slot, slot, Tag, out, out_slots}
-use Rattle.mig_value.specs.Fit.{Fits, FieldsFit, CasesFit, EachSlot}
-use Rattle.mig_path.specs.Fields.{under, value_in}
+use Rattle.mig_value.specs.Fit.{ValueFits, FieldsFit, CasesFit, EachSlot}
+use Rattle.mig_path.specs.Fields.{value_under, value_in}
 use Rattle.mig_finder.specs.Places.{to_field}
 use Rattle.mig_finder.specs.Law.{Finds}
 use Rattle.mig_finder.proofs.Names.{other_name, so_if}
@@ -42,19 +41,19 @@ from_three A B C D f no_field a b c = tt
 from_three A B C D f (field y p V fs) a b c = (f y p V a.0 b.0 c.0, from_three A B C D f fs a.1 b.1 c.1)
 
 -- ---- slots
-has_value : (x : List ℕ) (ss : Slots) → is_some (found x (out_slots ss)) ≡ is_some (value_in x ss)
+has_value : (x : List ℕ) (ss : Slots) → is_some (under x (out_slots ss)) ≡ is_some (value_in x ss)
 has_value x no_slot = refl
 has_value x (slot n v ss) = by (same_name x n) (has_value x ss)
   where
-    by : (b : Bool) → is_some (found x (out_slots ss)) ≡ is_some (value_in x ss) → is_some (if b then Some (out v) else found x (out_slots ss)) ≡ is_some (if b then Some v else value_in x ss)
+    by : (b : Bool) → is_some (under x (out_slots ss)) ≡ is_some (value_in x ss) → is_some (if b then Some (out v) else under x (out_slots ss)) ≡ is_some (if b then Some v else value_in x ss)
     by true h = refl
     by false h = h
 
 musts_there : (ss : Slots) (fs : Fields) → has_musts fs (out_slots ss) ≡ true → EachField (λ y p V. is_must p ≡ true → is_some (value_in y ss) ≡ true) fs
 musts_there ss no_field h = tt
 musts_there ss (field y p V fs) h =
-    let both = split_and (not (is_must p) || is_some (found y (out_slots ss))) (has_musts fs (out_slots ss)) h in
-    (λ m. sym (has_value y ss) ∙ so_if (is_must p) (is_some (found y (out_slots ss))) both.0 m, musts_there ss fs both.1)
+    let both = split_and (not (is_must p) || is_some (under y (out_slots ss))) (has_musts fs (out_slots ss)) h in
+    (λ m. sym (has_value y ss) ∙ so_if (is_must p) (is_some (under y (out_slots ss))) both.0 m, musts_there ss fs both.1)
 
 value_of_slot : (Q : List ℕ → Typed → Type 0) (x : List ℕ) (w : Typed) (ss : Slots) → EachSlot Q ss → value_in x ss ≡ Some w → Q x w
 value_of_slot Q x w no_slot e h = absurd cc
@@ -78,7 +77,7 @@ module _ (U : Typed → Type 0) (P : List ℕ → Typed → Type 0) where
   name_of_field no_field n w h = absurd h
   name_of_field (field y p V fs) n w h = by (same_name n y) h (name_of_field fs n w)
     where
-      by : (b : Bool) → MatchBool b (Fits U P V w) (FieldsFit U P fs n w) → (FieldsFit U P fs n w → is_among (names fs) n ≡ true) → (b || is_among (names fs) n) ≡ true
+      by : (b : Bool) → MatchBool b (ValueFits U P V w) (FieldsFit U P fs n w) → (FieldsFit U P fs n w → is_among (names fs) n ≡ true) → (b || is_among (names fs) n) ≡ true
       by true k rest = refl
       by false k rest = rest k
 
@@ -94,13 +93,13 @@ module _ (U : Typed → Type 0) (P : List ℕ → Typed → Type 0) where
       by false k rest = rest k
 
   -- where no name stands twice, a value under a field's name is one of that field's template
-  own_template : (G : List ℕ → Typed → Type 0) (fs : Fields) → has_twice (names fs) ≡ false → ((y : List ℕ) (w : Typed) → is_among (names fs) y ≡ true → G y w → FieldsFit U P fs y w) → EachField (λ y p V. (w : Typed) → G y w → Fits U P V w) fs
+  own_template : (G : List ℕ → Typed → Type 0) (fs : Fields) → has_twice (names fs) ≡ false → ((y : List ℕ) (w : Typed) → is_among (names fs) y ≡ true → G y w → FieldsFit U P fs y w) → EachField (λ y p V. (w : Typed) → G y w → ValueFits U P V w) fs
   own_template G no_field d f = tt
   own_template G (field y p V fs) d f =
       let both = split_or (is_among (names fs) y) (has_twice (names fs)) d in (
-        λ w g. MatchBool-at_true (Fits U P V w) (FieldsFit U P fs y w) (same_name_itself y) (f y w (left_or (same_name y y) (is_among (names fs) y) (same_name_itself y)) g),
+        λ w g. MatchBool-at_true (ValueFits U P V w) (FieldsFit U P fs y w) (same_name_itself y) (f y w (left_or (same_name y y) (is_among (names fs) y) (same_name_itself y)) g),
         own_template G fs both.1
-            (λ z w a g. MatchBool-at_false (Fits U P V w) (FieldsFit U P fs z w) (other_name z y (names fs) a both.0) (f z w (right_or (same_name z y) (is_among (names fs) z) a) g)),
+            (λ z w a g. MatchBool-at_false (ValueFits U P V w) (FieldsFit U P fs z w) (other_name z y (names fs) a both.0) (f z w (right_or (same_name z y) (is_among (names fs) z) a) g)),
       )
 
   -- ---- what the optic to a field finds
@@ -108,19 +107,19 @@ module _ (U : Typed → Type 0) (P : List ℕ → Typed → Type 0) where
   FieldFinds v y p V = Finds U P v (to_field y p, V)
 
   module _ (ss : Slots) (tag : Option Tag) (cs rs : Slots) where
-    fit_there : (V : Template) (o : Option Typed) → ((w : Typed) → o ≡ Some w → Fits U P V w) → AllByRecursion (Fits U P V) (option_to_list o)
+    fit_there : (V : Template) (o : Option Typed) → ((w : Typed) → o ≡ Some w → ValueFits U P V w) → AllByRecursion (ValueFits U P V) (option_to_list o)
     fit_there V None f = tt
     fit_there V (Some w) f = (f w refl, tt)
 
-    finds_under : (y : List ℕ) (p : Presence) (V : Template) (o : Option Typed) → under y (rec ss tag cs rs) ≡ o → (is_must p ≡ true → is_some o ≡ true) → ((w : Typed) → o ≡ Some w → Fits U P V w) → FieldFinds (rec ss tag cs rs) y p V
-    finds_under y Must V o e m f = record { takes = ap (λ (q : Option Typed). is_some q) e ∙ m refl; fit = subst (λ (q : Option Typed). AllByRecursion (Fits U P V) (option_to_list q)) (sym e) (fit_there V o f) }
-    finds_under y May V o e m f = record { takes = tt; fit = subst (λ (q : Option Typed). AllByRecursion (Fits U P V) (option_to_list q)) (sym e) (fit_there V o f) }
+    finds_under : (y : List ℕ) (p : Presence) (V : Template) (o : Option Typed) → value_under y (rec ss tag cs rs) ≡ o → (is_must p ≡ true → is_some o ≡ true) → ((w : Typed) → o ≡ Some w → ValueFits U P V w) → FieldFinds (rec ss tag cs rs) y p V
+    finds_under y Must V o e m f = record { takes = ap (λ (q : Option Typed). is_some q) e ∙ m refl; fit = subst (λ (q : Option Typed). AllByRecursion (ValueFits U P V) (option_to_list q)) (sym e) (fit_there V o f) }
+    finds_under y May V o e m f = record { takes = tt; fit = subst (λ (q : Option Typed). AllByRecursion (ValueFits U P V) (option_to_list q)) (sym e) (fit_there V o f) }
 
     -- where the values under the names of fields are those in some slots
-    finds_each : (zs : Slots) (fs : Fields) → has_twice (names fs) ≡ false → has_musts fs (out_slots zs) ≡ true → EachSlot (FieldsFit U P fs) zs → ((y : List ℕ) → is_among (names fs) y ≡ true → under y (rec ss tag cs rs) ≡ value_in y zs) → EachField (FieldFinds (rec ss tag cs rs)) fs
+    finds_each : (zs : Slots) (fs : Fields) → has_twice (names fs) ≡ false → has_musts fs (out_slots zs) ≡ true → EachSlot (FieldsFit U P fs) zs → ((y : List ℕ) → is_among (names fs) y ≡ true → value_under y (rec ss tag cs rs) ≡ value_in y zs) → EachField (FieldFinds (rec ss tag cs rs)) fs
     finds_each zs fs d m e u =
-        from_three (λ y p V. under y (rec ss tag cs rs) ≡ value_in y zs) (λ y p V. is_must p ≡ true → is_some (value_in y zs) ≡ true) (λ y p V. (w : Typed) → FieldsFit U P fs y w → Fits U P V w) (FieldFinds (rec ss tag cs rs))
-        (λ y p V a b c. finds_under y p V (value_in y zs) a b (λ w h. c w (value_of_slot (FieldsFit U P fs) y w zs e h))) fs (by_name (λ y. under y (rec ss tag cs rs) ≡ value_in y zs) fs u) (musts_there zs fs m)
+        from_three (λ y p V. value_under y (rec ss tag cs rs) ≡ value_in y zs) (λ y p V. is_must p ≡ true → is_some (value_in y zs) ≡ true) (λ y p V. (w : Typed) → FieldsFit U P fs y w → ValueFits U P V w) (FieldFinds (rec ss tag cs rs))
+        (λ y p V a b c. finds_under y p V (value_in y zs) a b (λ w h. c w (value_of_slot (FieldsFit U P fs) y w zs e h))) fs (by_name (λ y. value_under y (rec ss tag cs rs) ≡ value_in y zs) fs u) (musts_there zs fs m)
         (own_template (FieldsFit U P fs) fs d (λ y w a g. g))
 
     -- each common field, where the names in the other slots are none of theirs

@@ -12,14 +12,14 @@ use Rattle.mig_model.specs.Plain as plain
 use Rattle.mig_model.specs.Plain.{Plain, pairs_of, entries, tree, trees_of, each_entry}
 use Rattle.mig_model.specs.Kinds.{kind_of, entries_of_pairs}
 use Rattle.mig_model.specs.Inhabits.{Entries, has_tag, is_text}
-use Rattle.mig_model.specs.Names.{by_bytes, with_pair, found}
+use Rattle.mig_model.specs.Names.{by_bytes, put, under, same_name}
 use Rattle.mig_model.specs.Template as template
-use Rattle.mig_model.specs.Template.{Template, same_name, same_kind, has_kind}
+use Rattle.mig_model.specs.Template.{Template, same_kind, has_kind}
 use Rattle.mig_laws.specs.Sides.{is_side}
 use Rattle.mig_value.specs.Typed.{Typed, atom, list, left, right, rec, Items, no_item, item, items, items_of, Slots, no_slot, slot, Tag, tag_pair, in_order, out, out_items, out_slots}
-use Rattle.mig_value.specs.Fit.{Fits, EachSlot}
+use Rattle.mig_value.specs.Fit.{ValueFits, EachSlot}
 use Rattle.mig_path.specs.declared.side.Side.TheVariants.{Left, Right}
-use Rattle.mig_path.specs.Fields.{value_in, with_value, under}
+use Rattle.mig_path.specs.Fields.{value_in, with_value, value_under}
 use Rattle.mig_path.specs.Path.{Path, may_field, case_of, each, side, foci, over, over_field}
 use Rattle.mig_finder.specs.Ways.{Step, name, tagged, item as each_item, kinds, at_step}
 use Rattle.mig_model.proofs.Bools.{split_and, left_or, right_or}
@@ -39,20 +39,17 @@ does_each vs g f h = ap plain.list (items_changed g f vs h)
 
 -- ---- the sides of a sum
 -- a value of a side has a tree of one of its kinds
-pub kind_there : (form : Form) (U : Typed → Type 0) (P : List ℕ → Typed → Type 0) (V : Template) (v : Typed) → is_side V ≡ true → Fits U P V v → has_kind form V (kind_of (out v)) ≡ true
+pub kind_there : (form : Form) (U : Typed → Type 0) (P : List ℕ → Typed → Type 0) (V : Template) (v : Typed) → is_side V ≡ true → ValueFits U P V v → has_kind form V (kind_of (out v)) ≡ true
 kind_there form U P (template.leaf k) (atom t) s h = ap (same_kind k) h ∙ same_kind_itself k
-kind_there form U P (template.leaf k) v s h = absurd h
 kind_there form U P template.any v s h = absurd (true≢false (sym s))
 kind_there form U P (template.list V) (list vs) s h = refl
-kind_there form U P (template.list V) v s h = absurd h
 kind_there form U P (template.point n) v s h = absurd (true≢false (sym s))
 kind_there form U P (template.rec fs c r) (rec ss tag zs rs) s h = refl
-kind_there form U P (template.rec fs c r) v s h = absurd h
 kind_there form U P (template.sum V W) (left v) s h =
     left_or (has_kind form V (kind_of (out v))) (has_kind form W (kind_of (out v))) (kind_there form U P V v (split_and (is_side V) (is_side W) s).0 h)
 kind_there form U P (template.sum V W) (right v) s h =
     right_or (has_kind form V (kind_of (out v))) (has_kind form W (kind_of (out v))) (kind_there form U P W v (split_and (is_side V) (is_side W) s).1 h)
-kind_there form U P (template.sum V W) v s h = absurd h
+kind_there form U P _ v s h = absurd h
 
 module _ (form : Form) (V : Template) (v : Typed) where
   abbrev chosen : (Plain → Plain) → Bool → Plain
@@ -75,28 +72,28 @@ abbrev first : List ℕ → Plain → Entries → Entries
 first n t es = (n, t) ∷ es
 
 module _ (h : List ℕ → Plain → Plain) where
-  put_each : (n : List ℕ) (t : Plain) (ps : Entries) → each_entry h (with_pair n t ps) ≡ with_pair n (h n t) (each_entry h ps)
+  put_each : (n : List ℕ) (t : Plain) (ps : Entries) → each_entry h (put n t ps) ≡ put n (h n t) (each_entry h ps)
   put_each n t [] = refl
   put_each n t (p ∷ ps) = by (by_bytes n p.0) refl (put_each n t ps)
     where
-      by : (o : Ordering) → by_bytes n p.0 ≡ o → each_entry h (with_pair n t ps) ≡ with_pair n (h n t) (each_entry h ps) → each_entry h (match_ordering o ((n, t) ∷ p ∷ ps) ((p.0, t) ∷ ps) (p ∷ with_pair n t ps)) ≡ match_ordering o ((n, h n t) ∷ (p.0, h p.0 p.1) ∷ each_entry h ps) ((p.0, h n t) ∷ each_entry h ps) ((p.0, h p.0 p.1) ∷ with_pair n (h n t) (each_entry h ps))
+      by : (o : Ordering) → by_bytes n p.0 ≡ o → each_entry h (put n t ps) ≡ put n (h n t) (each_entry h ps) → each_entry h (match_ordering o ((n, t) ∷ p ∷ ps) ((p.0, t) ∷ ps) (p ∷ put n t ps)) ≡ match_ordering o ((n, h n t) ∷ (p.0, h p.0 p.1) ∷ each_entry h ps) ((p.0, h n t) ∷ each_entry h ps) ((p.0, h p.0 p.1) ∷ put n (h n t) (each_entry h ps))
       by Less e rest = refl
       by Equal e rest = ap (λ (m : List ℕ). first p.0 (h m t) (each_entry h ps)) (sym (same_name_is n p.0 (ap is_eq e)))
       by Greater e rest = ap (λ (l : Entries). (p.0, h p.0 p.1) ∷ l) rest
 
   order_each : (ps : Entries) → each_entry h (in_order ps) ≡ in_order (each_entry h ps)
   order_each [] = refl
-  order_each (p ∷ ps) = put_each p.0 p.1 (in_order ps) ∙ ap (with_pair p.0 (h p.0 p.1)) (order_each ps)
+  order_each (p ∷ ps) = put_each p.0 p.1 (in_order ps) ∙ ap (put p.0 (h p.0 p.1)) (order_each ps)
 
   each_append : (ps qs : Entries) → each_entry h (ps ++ qs) ≡ each_entry h ps ++ each_entry h qs
   each_append [] qs = refl
   each_append (p ∷ ps) qs = ap (λ (l : Entries). (p.0, h p.0 p.1) ∷ l) (each_append ps qs)
 
-found_put : (x n : List ℕ) (t : Plain) (ps : Entries) → found x (with_pair n t ps) ≡ (if same_name x n then Some t else found x ps)
+found_put : (x n : List ℕ) (t : Plain) (ps : Entries) → under x (put n t ps) ≡ (if same_name x n then Some t else under x ps)
 found_put x n t [] = refl
 found_put x n t (p ∷ ps) = by (by_bytes n p.0) refl (found_put x n t ps)
   where
-    turned : (a b : Bool) → (a ≡ true → b ≡ true → ⊥) → (if a then Some p.1 else (if b then Some t else found x ps)) ≡ (if b then Some t else (if a then Some p.1 else found x ps))
+    turned : (a b : Bool) → (a ≡ true → b ≡ true → ⊥) → (if a then Some p.1 else (if b then Some t else under x ps)) ≡ (if b then Some t else (if a then Some p.1 else under x ps))
     turned true true k = absurd (k refl refl)
     turned true false k = refl
     turned false b k = refl
@@ -107,22 +104,22 @@ found_put x n t (p ∷ ps) = by (by_bytes n p.0) refl (found_put x n t ps)
         let yes : same_name n p.0 ≡ true = subst (λ (m : List ℕ). same_name n m ≡ true) same (same_name_itself n) in
         true≢false (sym yes ∙ ap is_eq e)
 
-    by : (o : Ordering) → by_bytes n p.0 ≡ o → found x (with_pair n t ps) ≡ (if same_name x n then Some t else found x ps) → found x (match_ordering o ((n, t) ∷ p ∷ ps) ((p.0, t) ∷ ps) (p ∷ with_pair n t ps)) ≡ (if same_name x n then Some t else (if same_name x p.0 then Some p.1 else found x ps))
+    by : (o : Ordering) → by_bytes n p.0 ≡ o → under x (put n t ps) ≡ (if same_name x n then Some t else under x ps) → under x (match_ordering o ((n, t) ∷ p ∷ ps) ((p.0, t) ∷ ps) (p ∷ put n t ps)) ≡ (if same_name x n then Some t else (if same_name x p.0 then Some p.1 else under x ps))
     by Less e rest = refl
     by Equal e rest = equal_case (same_name x p.0) refl
       where
         same : n ≡ p.0
         same = same_name_is n p.0 (ap is_eq e)
 
-        twice : (b : Bool) → (if b then Some t else found x ps) ≡ (if b then Some t else (if b then Some p.1 else found x ps))
+        twice : (b : Bool) → (if b then Some t else under x ps) ≡ (if b then Some t else (if b then Some p.1 else under x ps))
         twice true = refl
         twice false = refl
 
-        equal_case : (b : Bool) → same_name x p.0 ≡ b → (if same_name x p.0 then Some t else found x ps) ≡ (if same_name x n then Some t else (if same_name x p.0 then Some p.1 else found x ps))
-        equal_case b i = subst (λ (m : List ℕ). (if same_name x p.0 then Some t else found x ps) ≡ (if same_name x m then Some t else (if same_name x p.0 then Some p.1 else found x ps))) (sym same) (twice (same_name x p.0))
+        equal_case : (b : Bool) → same_name x p.0 ≡ b → (if same_name x p.0 then Some t else under x ps) ≡ (if same_name x n then Some t else (if same_name x p.0 then Some p.1 else under x ps))
+        equal_case b i = subst (λ (m : List ℕ). (if same_name x p.0 then Some t else under x ps) ≡ (if same_name x m then Some t else (if same_name x p.0 then Some p.1 else under x ps))) (sym same) (twice (same_name x p.0))
     by Greater e rest = ap (λ (o : Option Plain). if same_name x p.0 then Some p.1 else o) rest ∙ turned (same_name x p.0) (same_name x n) (apart e)
 
-found_in_order : (x : List ℕ) (ps : Entries) → found x (in_order ps) ≡ found x ps
+found_in_order : (x : List ℕ) (ps : Entries) → under x (in_order ps) ≡ under x ps
 found_in_order x [] = refl
 found_in_order x (p ∷ ps) = found_put x p.0 p.1 (in_order ps) ∙ ap (λ (o : Option Plain). if same_name x p.0 then Some p.1 else o) (found_in_order x ps)
 
@@ -137,13 +134,17 @@ Once x no_slot = Unit {0}
 Once x (slot n v ss) = MatchBool (same_name x n) (Free x ss) (Once x ss)
 
 module _ (x : List ℕ) where
-  not_found : (ss : Slots) → Free x ss → found x (out_slots ss) ≡ None
+  not_found : (ss : Slots) → Free x ss → under x (out_slots ss) ≡ None
   not_found no_slot e = refl
-  not_found (slot n v ss) e = ap (λ (b : Bool). if b then Some (out v) else found x (out_slots ss)) e.0 ∙ not_found ss e.1
+  not_found (slot n v ss) e = ap (λ (b : Bool). if b then Some (out v) else under x (out_slots ss)) e.0 ∙ not_found ss e.1
 
-  found_behind : (ss : Slots) (ps : Entries) → Free x ss → found x (out_slots ss ++ ps) ≡ found x ps
+  found_behind : (ss : Slots) (ps : Entries) → Free x ss → under x (out_slots ss ++ ps) ≡ under x ps
   found_behind no_slot ps e = refl
-  found_behind (slot n v ss) ps e = ap (λ (b : Bool). if b then Some (out v) else found x (out_slots ss ++ ps)) e.0 ∙ found_behind ss ps e.1
+  found_behind (slot n v ss) ps e = ap (λ (b : Bool). if b then Some (out v) else under x (out_slots ss ++ ps)) e.0 ∙ found_behind ss ps e.1
+
+  none_if_free : (ss : Slots) → Free x ss → value_in x ss ≡ None
+  none_if_free no_slot e = refl
+  none_if_free (slot n v ss) e = ap (λ (b : Bool). if b then Some v else value_in x ss) e.0 ∙ none_if_free ss e.1
 
   free_if_none : (ss : Slots) → value_in x ss ≡ None → Free x ss
   free_if_none no_slot e = tt
@@ -199,18 +200,14 @@ module _ (x : List ℕ) (ss : Slots) (tag : Option Tag) (zs rs : Slots) (no_tag 
   does_common once free g f h = by (value_in x ss) refl
     where
       none : value_in x zs ≡ None
-      none = absent zs free
-        where
-          absent : (qs : Slots) → Free x qs → value_in x qs ≡ None
-          absent no_slot e = refl
-          absent (slot n v qs) e = ap (λ (b : Bool). if b then Some v else value_in x qs) e.0 ∙ absent qs e.1
+      none = none_if_free x zs free
 
-      by : (o : Option Typed) → value_in x ss ≡ o → out (over_field x g (under x value) value) ≡ at_step (name x) f (out value)
+      by : (o : Option Typed) → value_in x ss ≡ o → out (over_field x g (value_under x value) value) ≡ at_step (name x) f (out value)
       by None e =
-          let nothing : under x value ≡ None = ap₂ (λ (a b : Option Typed). option_or a b) e none in
+          let nothing : value_under x value ≡ None = ap₂ (λ (a b : Option Typed). option_or a b) e none in
           ap (λ (o : Option Typed). out (over_field x g o value)) nothing ∙ nothing_there (free_if_none x ss e) free f
       by (Some w) e =
-          let there : under x value ≡ Some w = ap (λ (a : Option Typed). option_or a (value_in x zs)) e in
+          let there : value_under x value ≡ Some w = ap (λ (a : Option Typed). option_or a (value_in x zs)) e in
           let same : out (g w) ≡ f (out w) = (subst (λ (o : Option Typed). AllByRecursion (λ u. out (g u) ≡ f (out u)) (option_to_list o)) there h).0 in
           ap (λ (o : Option Typed). out (over_field x g o value)) there
           ∙ ap (λ (o : Option Typed). out (if is_some o then rec (with_value x (g w) ss) tag zs rs else rec ss tag (with_value x (g w) zs) rs)) e
@@ -221,18 +218,14 @@ module _ (x : List ℕ) (ss : Slots) (tag : Option Tag) (zs rs : Slots) (no_tag 
   does_cased free once g f h = by (value_in x zs) refl
     where
       none : value_in x ss ≡ None
-      none = absent ss free
-        where
-          absent : (qs : Slots) → Free x qs → value_in x qs ≡ None
-          absent no_slot e = refl
-          absent (slot n v qs) e = ap (λ (b : Bool). if b then Some v else value_in x qs) e.0 ∙ absent qs e.1
+      none = none_if_free x ss free
 
-      by : (o : Option Typed) → value_in x zs ≡ o → out (over_field x g (under x value) value) ≡ at_step (name x) f (out value)
+      by : (o : Option Typed) → value_in x zs ≡ o → out (over_field x g (value_under x value) value) ≡ at_step (name x) f (out value)
       by None e =
-          let nothing : under x value ≡ None = ap₂ (λ (a b : Option Typed). option_or a b) none e in
+          let nothing : value_under x value ≡ None = ap₂ (λ (a b : Option Typed). option_or a b) none e in
           ap (λ (o : Option Typed). out (over_field x g o value)) nothing ∙ nothing_there free (free_if_none x zs e) f
       by (Some w) e =
-          let there : under x value ≡ Some w = ap₂ (λ (a b : Option Typed). option_or a b) none e in
+          let there : value_under x value ≡ Some w = ap₂ (λ (a b : Option Typed). option_or a b) none e in
           let same : out (g w) ≡ f (out w) = (subst (λ (o : Option Typed). AllByRecursion (λ u. out (g u) ≡ f (out u)) (option_to_list o)) there h).0 in
           ap (λ (o : Option Typed). out (over_field x g o value)) there
           ∙ ap (λ (o : Option Typed). out (if is_some o then rec (with_value x (g w) ss) tag zs rs else rec ss tag (with_value x (g w) zs) rs)) none
@@ -246,10 +239,10 @@ module _ (l : List ℕ) (ss : Slots) (t : Tag) (zs rs : Slots) (free : Free t.0 
   abbrev pairs : Entries
   pairs = out_slots ss ++ ((t.0, plain.text t.1) ∷ (out_slots zs ++ out_slots rs))
 
-  tag_there : found t.0 (entries (pairs_of (in_order pairs))) ≡ Some (plain.text t.1)
+  tag_there : under t.0 (entries (pairs_of (in_order pairs))) ≡ Some (plain.text t.1)
   tag_there =
-      ap (found t.0) (entries_of_pairs (in_order pairs)) ∙ found_in_order t.0 pairs ∙ found_behind t.0 ss ((t.0, plain.text t.1) ∷ (out_slots zs ++ out_slots rs)) free
-      ∙ ap (λ (b : Bool). if b then Some (plain.text t.1) else found t.0 (out_slots zs ++ out_slots rs)) (same_name_itself t.0)
+      ap (under t.0) (entries_of_pairs (in_order pairs)) ∙ found_in_order t.0 pairs ∙ found_behind t.0 ss ((t.0, plain.text t.1) ∷ (out_slots zs ++ out_slots rs)) free
+      ∙ ap (λ (b : Bool). if b then Some (plain.text t.1) else under t.0 (out_slots zs ++ out_slots rs)) (same_name_itself t.0)
 
   literal_is : has_tag t.0 l (entries (pairs_of (in_order pairs))) ≡ same_name l t.1
   literal_is = ap (is_text l) tag_there ∙ flips t.1 l

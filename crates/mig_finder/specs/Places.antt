@@ -3,7 +3,8 @@ use Rattle.std.specs.Prelude.{ℕ, List, [], ◌∷◌, ◌++◌, map, if◌then
 use Rattle.mig_model.specs.declared.presence.Presence.{Presence}
 use Rattle.mig_model.specs.declared.presence.Presence.TheVariants.{Must, May}
 use Rattle.mig_model.specs.Template as template
-use Rattle.mig_model.specs.Template.{Template, Fields, no_field, field, Choice, no_choice, choice, Cases, no_case, case, same_name}
+use Rattle.mig_model.specs.Template.{Template, Fields, no_field, field, Choice, no_choice, choice, Cases, no_case, case}
+use Rattle.mig_model.specs.Names.{same_name}
 use Rattle.mig_path.specs.declared.side.Side.TheVariants.{Left, Right}
 use Rattle.mig_path.specs.Path.{Path, field_at, may_field, case_of, each, side, then_}
 

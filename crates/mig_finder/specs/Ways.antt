@@ -6,7 +6,8 @@ use Rattle.mig_model.specs.Plain.{Plain, entries, on_items, on_entries, each_ent
 use Rattle.mig_model.specs.Kinds.{kind_of}
 use Rattle.mig_model.specs.Inhabits.{has_tag}
 use Rattle.mig_model.specs.Template as template
-use Rattle.mig_model.specs.Template.{Template, Fields, no_field, field, Choice, no_choice, choice, Cases, no_case, case, same_name, has_kind}
+use Rattle.mig_model.specs.Template.{Template, Fields, no_field, field, Choice, no_choice, choice, Cases, no_case, case, has_kind}
+use Rattle.mig_model.specs.Names.{same_name}
 
 -- a step: to the tree under a name of a map, where it is there; on from a map whose tag, under the first name, is the literal; to each item of a list; on from a tree of one of the template's kinds
 pub data Step : Type 0 where

@@ -1,6 +1,7 @@
 //! The walk through a template, which adds the places part by part.
 ghost use Rattle.std.specs.Prelude.{◌≡◌, ◌∷◌, ◌++◌, [], IfOk, OnOk};
-ghost use Rattle.mig_model.specs.Template.{fields_of, cases_of, same_name};
+ghost use Rattle.mig_model.specs.Template.{fields_of, cases_of};
+ghost use Rattle.mig_model.specs.Names.{same_name};
 ghost use Rattle.mig_template.specs.View.{template_of};
 ghost use Rattle.mig_optic.specs.AnyView.{any_path};
 ghost use Rattle.mig_finder.specs.Places.{behind, to_field, places, field_places, case_places};

@@ -2,12 +2,10 @@
 #![tactic(auto)]
 
 mod any_optic;
-mod any_parts;
-mod any_residue;
-mod held;
+mod parting;
 
 pub use any_optic::{AnyOptic, OpticBox};
-pub use any_residue::AnyResidue;
+pub use mig_any_residue::AnyResidue;
 pub use mig_path::{
     Counter, Here, HereRest, Memory, Name, Optic, Side, SideRest, Value, can_rejoin, foci_compose,
     frame_determines, join_is_over, over_reads, parted_rejoins, rejoined_parts, rest_is_frame,

@@ -4,9 +4,9 @@ use Rattle.std.specs.Prelude.{option_to_list, is_some, IsTrue, if◌then◌else�
 use Rattle.std.specs.List.{flat_map, AllByRecursion}
 use Rattle.mig_value.specs.Typed.{Typed, list, left, right, rec, point, Tag}
 use Rattle.mig_path.specs.declared.side.Side.TheVariants.{Left, Right}
-use Rattle.mig_path.specs.Fields.{null, under, with_under, value_in, with_value, tag_of, has_literal, is_literal}
+use Rattle.mig_path.specs.Fields.{null, value_under, with_value_under, value_in, with_value, tag_of, has_literal, is_tagged_as}
 use Rattle.mig_path.specs.Path.{Path, here, field_at, may_field, case_of, each, side, cross, then_, Takes, foci, crossed, total_of}
-use Rattle.mig_path.specs.Rest.{Rest, whole, stays, hole, many, both, rest_for, field_rest, part_of, groups_of, join, joins, EachGroup, GivesBack}
+use Rattle.mig_path.specs.Rest.{Residual, whole, stays, hole, many, both, rest_for, field_rest, part_of, groups_of, join, joins, EachGroup, GivesBack}
 use Rattle.mig_path.specs.Laws.{PartsInto, CanRejoin}
 use Rattle.std.proofs.Math.Seq.{take-append_seam, drop-append_seam}
 use Rattle.std.proofs.lemmas.List.{length-append, length-drop, length-take-le, take-append-drop}
@@ -24,19 +24,19 @@ nothing P [] n h = h
 nothing P (w ∷ fs) n h = absurd (omega arith)
 
 -- ---- a value under a name
-there : (x : List ℕ) (u w v : Typed) → under x v ≡ Some u → under x (with_under x w (with_under x null v)) ≡ Some w
-there x u w v e = under_with x null w (with_under x null v) (under_with x u null v e)
+there : (x : List ℕ) (u w v : Typed) → value_under x v ≡ Some u → value_under x (with_value_under x w (with_value_under x null v)) ≡ Some w
+there x u w v e = under_with x null w (with_value_under x null v) (under_with x u null v e)
 
-rest_again : (x : List ℕ) (u w v : Typed) → under x v ≡ Some u → field_rest x (under x (with_under x w (with_under x null v))) (with_under x w (with_under x null v)) ≡ field_rest x (under x v) v
+rest_again : (x : List ℕ) (u w v : Typed) → value_under x v ≡ Some u → field_rest x (value_under x (with_value_under x w (with_value_under x null v))) (with_value_under x w (with_value_under x null v)) ≡ field_rest x (value_under x v) v
 rest_again x u w v e =
-    ap (λ (o : Option Typed). field_rest x o (with_under x w (with_under x null v))) (there x u w v e)
-    ∙ ap (hole x) (with_with x null w (with_under x null v) ∙ with_with x null null v)
+    ap (λ (o : Option Typed). field_rest x o (with_value_under x w (with_value_under x null v))) (there x u w v e)
+    ∙ ap (hole x) (with_with x null w (with_value_under x null v) ∙ with_with x null null v)
     ∙ sym (ap (λ (o : Option Typed). field_rest x o v) e)
 
-field_again : (x : List ℕ) (v : Typed) (fs : List Typed) (o : Option Typed) → under x v ≡ o → IsTrue (is_some o) → length fs ≡ length (option_to_list o) → PartsInto (field_at x) (join (field_rest x o v) fs) fs v
+field_again : (x : List ℕ) (v : Typed) (fs : List Typed) (o : Option Typed) → value_under x v ≡ o → IsTrue (is_some o) → length fs ≡ length (option_to_list o) → PartsInto (field_at x) (join (field_rest x o v) fs) fs v
 field_again x v fs None e t n = absurd (let h : false ≡ true = t in cc)
 field_again x v fs (Some u) e t n =
-    alone (λ l. PartsInto (field_at x) (join (hole x (with_under x null v)) l) l v) fs n
+    alone (λ l. PartsInto (field_at x) (join (hole x (with_value_under x null v)) l) l v) fs n
     (λ w. record {
       takes = ap is_some (there x u w v e);
       foci_are = ap (λ (o : Option Typed). option_to_list o) (there x u w v e);
@@ -44,7 +44,7 @@ field_again x v fs (Some u) e t n =
       crosses = refl;
     })
 
-stays_record : (x y : List ℕ) (w v : Typed) → Takes (may_field x) v → Takes (may_field x) (with_under y w v)
+stays_record : (x y : List ℕ) (w v : Typed) → Takes (may_field x) v → Takes (may_field x) (with_value_under y w v)
 stays_record x y w (rec fs tag cs rs) t = by (is_some (value_in y fs))
   where
     by : (b : Bool) → Takes (may_field x) (if b then rec (with_value y w fs) tag cs rs else rec fs tag (with_value y w cs) rs)
@@ -52,20 +52,20 @@ stays_record x y w (rec fs tag cs rs) t = by (is_some (value_in y fs))
     by false = tt
 stays_record x y w v t = absurd t
 
-may_again : (x : List ℕ) (v : Typed) (fs : List Typed) (o : Option Typed) → under x v ≡ o → Takes (may_field x) v → length fs ≡ length (option_to_list o) → PartsInto (may_field x) (join (field_rest x o v) fs) fs v
+may_again : (x : List ℕ) (v : Typed) (fs : List Typed) (o : Option Typed) → value_under x v ≡ o → Takes (may_field x) v → length fs ≡ length (option_to_list o) → PartsInto (may_field x) (join (field_rest x o v) fs) fs v
 may_again x v fs None e t n =
     nothing (λ l. PartsInto (may_field x) v l v) fs n (record { takes = t; foci_are = ap (λ (o : Option Typed). option_to_list o) e; rest_is = refl; crosses = refl })
 may_again x v fs (Some u) e t n =
-    alone (λ l. PartsInto (may_field x) (join (hole x (with_under x null v)) l) l v) fs n
+    alone (λ l. PartsInto (may_field x) (join (hole x (with_value_under x null v)) l) l v) fs n
     (λ w. record {
-      takes = stays_record x x w (with_under x null v) (stays_record x x null v t);
+      takes = stays_record x x w (with_value_under x null v) (stays_record x x null v t);
       foci_are = ap (λ (o : Option Typed). option_to_list o) (there x u w v e);
       rest_is = rest_again x u w v e;
       crosses = refl;
     })
 
 -- ---- a case
-has_tag : (l : List ℕ) (o : Option Tag) → is_literal l o ≡ true → IsTrue (is_some o)
+has_tag : (l : List ℕ) (o : Option Tag) → is_tagged_as l o ≡ true → IsTrue (is_some o)
 has_tag l None h = h
 has_tag l (Some t) h = refl
 
@@ -104,7 +104,7 @@ each_again q again (w ∷ ws) fs t n g =
     record {
       takes = (here.takes, rest.takes);
       foci_are = ap₂ (λ (a b : List Typed). a ++ b) here.foci_are rest.foci_are ∙ take-append-drop k fs;
-      parts_are = ap₂ (λ (a : ℕ × Rest) (l : List (ℕ × Rest)). a ∷ l) (ap₂ (λ (m : ℕ) (r : Rest). (m, r)) (ap length here.foci_are ∙ front) here.rest_is) rest.parts_are;
+      parts_are = ap₂ (λ (a : ℕ × Residual) (l : List (ℕ × Residual)). a ∷ l) (ap₂ (λ (m : ℕ) (r : Residual). (m, r)) (ap length here.foci_are ∙ front) here.rest_is) rest.parts_are;
       as_many = ap suc rest.as_many;
       crosses = ap₂ (λ (a b : ℕ). a + b) here.crosses rest.crosses;
     }
@@ -113,14 +113,14 @@ then_again : (p q : Path) (v : Typed) (us fs : List Typed) → PartsInto p (join
 then_again p q v us fs first second = record {
   takes = (first.takes, subst (AllByRecursion (Takes q)) (sym first.foci_are) second.takes);
   foci_are = ap (flat_map (foci q)) first.foci_are ∙ second.foci_are;
-  rest_is = ap₂ (λ (r : Rest) (l : List (ℕ × Rest)). both r (groups_of l)) first.rest_is (ap (map (part_of q)) first.foci_are ∙ second.parts_are);
+  rest_is = ap₂ (λ (r : Residual) (l : List (ℕ × Residual)). both r (groups_of l)) first.rest_is (ap (map (part_of q)) first.foci_are ∙ second.parts_are);
   crosses = ap₂ (λ (a b : ℕ). a + b) first.crosses (ap (total_of (crossed q)) first.foci_are ∙ second.crosses);
 }
 
 pub again : (o : Path) → Again o
 again here v fs t n g = alone (λ l. PartsInto here (join whole l) l v) fs n (λ w. record { takes = tt; foci_are = refl; rest_is = refl; crosses = refl })
-again (field_at x) v fs t n g = field_again x v fs (under x v) refl t n
-again (may_field x) v fs t n g = may_again x v fs (under x v) refl t n
+again (field_at x) v fs t n g = field_again x v fs (value_under x v) refl t n
+again (may_field x) v fs t n g = may_again x v fs (value_under x v) refl t n
 again (case_of l) v fs t n g = case_again l v fs (has_literal l v) refl t n g
 again each (list vs) fs t n g =
     record { takes = tt; foci_are = items_again fs; rest_is = ap many (ap length (items_again fs) ∙ n); crosses = refl }

@@ -4,7 +4,7 @@ use Rattle.std.specs.Prelude.{option_to_list, if◌then◌else◌}
 use Rattle.std.specs.List.{flat_map, AllByRecursion}
 use Rattle.mig_value.specs.Typed.{Typed, list, left, right, point, items, items_of}
 use Rattle.mig_path.specs.declared.side.Side.TheVariants.{Left, Right}
-use Rattle.mig_path.specs.Fields.{under, with_under, has_literal}
+use Rattle.mig_path.specs.Fields.{value_under, with_value_under, has_literal}
 use Rattle.mig_path.specs.Path.{Path, here, field_at, may_field, case_of, each, side, cross, then_, Takes, foci, over, over_field}
 
 -- the two do the same at each value
@@ -13,7 +13,7 @@ Agree f g ws = AllByRecursion (λ w. f w ≡ g w) ws
 
 field_reads : (x : List ℕ) (f g : Typed → Typed) (v : Typed) (o : Option Typed) → Agree f g (option_to_list o) → over_field x f o v ≡ over_field x g o v
 field_reads x f g v None h = refl
-field_reads x f g v (Some w) h = ap (λ (u : Typed). with_under x u v) h.0
+field_reads x f g v (Some w) h = ap (λ (u : Typed). with_value_under x u v) h.0
 
 case_reads : (f g : Typed → Typed) (v : Typed) (b : Bool) → Agree f g (if b then v ∷ [] else []) → (if b then f v else v) ≡ (if b then g v else v)
 case_reads f g v true h = h.0
@@ -38,8 +38,8 @@ each_reads q f g k (w ∷ ws) h = (k w (front f g (foci q w) (flat_map (foci q) 
 -- a change depends on what is done at the foci alone
 pub over_reads : (o : Path) (f g : Typed → Typed) (v : Typed) → Agree f g (foci o v) → over o f v ≡ over o g v
 over_reads here f g v h = h.0
-over_reads (field_at x) f g v h = field_reads x f g v (under x v) h
-over_reads (may_field x) f g v h = field_reads x f g v (under x v) h
+over_reads (field_at x) f g v h = field_reads x f g v (value_under x v) h
+over_reads (may_field x) f g v h = field_reads x f g v (value_under x v) h
 over_reads (case_of l) f g v h = case_reads f g v (has_literal l v) h
 over_reads each f g (list vs) h = ap (λ (l : List Typed). list (items_of l)) (map_reads f g (items vs) h)
 over_reads each f g v h = refl

@@ -4,9 +4,9 @@ use Rattle.std.specs.Prelude.{option_to_list, is_some, IsTrue, if◌then◌else�
 use Rattle.std.specs.List.{flat_map, AllByRecursion}
 use Rattle.mig_value.specs.Typed.{Typed, list, left, right, point, items}
 use Rattle.mig_path.specs.declared.side.Side.TheVariants.{Left, Right}
-use Rattle.mig_path.specs.Fields.{null, under, with_under, tag_of, has_literal, is_literal}
+use Rattle.mig_path.specs.Fields.{null, value_under, with_value_under, tag_of, has_literal, is_tagged_as}
 use Rattle.mig_path.specs.Path.{Path, here, field_at, may_field, case_of, each, side, cross, then_, Takes, foci, over, over_field, frame}
-use Rattle.mig_path.specs.Rest.{Rest, whole, stays, hole, many, named, both, rest_for, field_rest, part_of, groups_of, join}
+use Rattle.mig_path.specs.Rest.{Residual, whole, stays, hole, many, named, both, rest_for, field_rest, part_of, groups_of, join}
 use Rattle.mig_path.specs.Laws.{IsDetermined}
 use Rattle.std.proofs.lemmas.List.{length-map, map-append}
 use Rattle.mig_path.proofs.Records.{with_with, under_with, tag_with}
@@ -27,8 +27,8 @@ case_tag f h false v = inr refl
 
 leaves_tag : (o : Path) (f : Typed → Typed) → LeavesTag f → LeavesTag (over o f)
 leaves_tag here f h v = h v
-leaves_tag (field_at x) f h v = inr (field_tag x f (under x v) v)
-leaves_tag (may_field x) f h v = inr (field_tag x f (under x v) v)
+leaves_tag (field_at x) f h v = inr (field_tag x f (value_under x v) v)
+leaves_tag (may_field x) f h v = inr (field_tag x f (value_under x v) v)
 leaves_tag (case_of l) f h v = case_tag f h (has_literal l v) v
 leaves_tag each f h (list vs) = inr refl
 leaves_tag each f h v = inr refl
@@ -50,25 +50,25 @@ record AlikeUnder (x : List ℕ) (f g : Typed → Typed) (v w : Typed) (m n : Op
   rest : field_rest x m v ≡ field_rest x n w
   done : map f (option_to_list m) ≡ map g (option_to_list n)
 
-field_alike : (x : List ℕ) (f g : Typed → Typed) (v w : Typed) (m n : Option Typed) → under x v ≡ m → under x w ≡ n → over_field x f m v ≡ over_field x g n w → AlikeUnder x f g v w m n
+field_alike : (x : List ℕ) (f g : Typed → Typed) (v w : Typed) (m n : Option Typed) → value_under x v ≡ m → value_under x w ≡ n → over_field x f m v ≡ over_field x g n w → AlikeUnder x f g v w m n
 field_alike x f g v w None None d e h = record { rest = ap stays h; done = refl }
 field_alike x f g v w (Some a) (Some b) d e h =
-    let same : Some (f a) ≡ Some (g b) = sym (under_with x a (f a) v d) ∙ ap (under x) h ∙ under_with x b (g b) w e in
+    let same : Some (f a) ≡ Some (g b) = sym (under_with x a (f a) v d) ∙ ap (value_under x) h ∙ under_with x b (g b) w e in
     record {
-      rest = ap (hole x) (sym (with_with x null (f a) v) ∙ ap (with_under x null) h ∙ with_with x null (g b) w);
+      rest = ap (hole x) (sym (with_with x null (f a) v) ∙ ap (with_value_under x null) h ∙ with_with x null (g b) w);
       done = ap (λ (o : Option Typed). option_to_list o) same;
     }
 field_alike x f g v w None (Some b) d e h =
-    let wrong : None ≡ Some (g b) = sym d ∙ ap (under x) h ∙ under_with x b (g b) w e in
+    let wrong : None ≡ Some (g b) = sym d ∙ ap (value_under x) h ∙ under_with x b (g b) w e in
     absurd cc
 field_alike x f g v w (Some a) None d e h =
-    let wrong : Some (f a) ≡ None = sym (under_with x a (f a) v d) ∙ ap (under x) h ∙ e in
+    let wrong : Some (f a) ≡ None = sym (under_with x a (f a) v d) ∙ ap (value_under x) h ∙ e in
     absurd cc
 
 -- ---- a case
 no_literal : (l : List ℕ) (f : Typed → Typed) (v w : Typed) → has_literal l v ≡ true → has_literal l w ≡ false → IsTrue (is_some (tag_of w)) → (tag_of (f v) ≡ None) ⊎ (tag_of (f v) ≡ tag_of v) → f v ≡ w → ⊥
 no_literal l f v w a b t (inl h) e = let wrong : false ≡ true = sym (ap is_some h) ∙ ap (λ (u : Typed). is_some (tag_of u)) e ∙ t in absurd cc
-no_literal l f v w a b t (inr h) e = let wrong : true ≡ false = sym a ∙ sym (ap (is_literal l) h) ∙ ap (has_literal l) e ∙ b in absurd cc
+no_literal l f v w a b t (inr h) e = let wrong : true ≡ false = sym a ∙ sym (ap (is_tagged_as l) h) ∙ ap (has_literal l) e ∙ b in absurd cc
 
 case_alike : (l : List ℕ) (f g : Typed → Typed) → LeavesTag f → LeavesTag g → (v w : Typed) → IsTrue (is_some (tag_of v)) → IsTrue (is_some (tag_of w)) → (b c : Bool) → has_literal l v ≡ b → has_literal l w ≡ c → (if b then f v else v) ≡ (if c then g w else w) → ((if b then whole else stays v) ≡ (if c then whole else stays w)) × (map f (if b then v ∷ [] else []) ≡ map g (if c then w ∷ [] else []))
 case_alike l f g p q v w s t true true d e h = (refl, ap (λ (u : Typed). u ∷ []) h)
@@ -99,7 +99,7 @@ each_alike q h f g j k (v ∷ vs) (w ∷ ws) s t e =
     let others = each_alike q h f g j k vs ws s.1 t.1 (rest_are (over q f v) (over q g w) (map (over q f) vs) (map (over q g) ws) e) in
     let as_many : length (foci q v) ≡ length (foci q w) = sym (length-map (foci q v) f) ∙ ap length here.done ∙ length-map (foci q w) g in
     record {
-      parts = ap₂ (λ (a : ℕ × Rest) (l : List (ℕ × Rest)). a ∷ l) (ap₂ (λ (m : ℕ) (r : Rest). (m, r)) as_many here.rest) others.parts;
+      parts = ap₂ (λ (a : ℕ × Residual) (l : List (ℕ × Residual)). a ∷ l) (ap₂ (λ (m : ℕ) (r : Residual). (m, r)) as_many here.rest) others.parts;
       done = map-append f (foci q v) (flat_map (foci q) vs) ∙ ap₂ (λ (a b : List Typed). a ++ b) here.done others.done ∙ sym (map-append g (foci q w) (flat_map (foci q) ws));
     }
 
@@ -110,10 +110,10 @@ list_items v = []
 pub alike : (o : Path) → AlikeAt o
 alike here f g j k v w s t e = record { rest = refl; done = ap (λ (u : Typed). u ∷ []) e }
 alike (field_at x) f g j k v w s t e =
-    let h = field_alike x f g v w (under x v) (under x w) refl refl e in
+    let h = field_alike x f g v w (value_under x v) (value_under x w) refl refl e in
     record { rest = h.rest; done = h.done }
 alike (may_field x) f g j k v w s t e =
-    let h = field_alike x f g v w (under x v) (under x w) refl refl e in
+    let h = field_alike x f g v w (value_under x v) (value_under x w) refl refl e in
     record { rest = h.rest; done = h.done }
 alike (case_of l) f g j k v w s t e =
     let h = case_alike l f g j k v w s t (has_literal l v) (has_literal l w) refl refl e in
@@ -146,7 +146,7 @@ alike cross f g j k v w s t e = absurd s
 alike (then_ p q) f g j k v w s t e =
     let first = alike p (over q f) (over q g) (leaves_tag q f j) (leaves_tag q g k) v w s.0 t.0 e in
     let others = each_alike q (alike q) f g j k (foci p v) (foci p w) s.1 t.1 first.done in
-    record { rest = ap₂ (λ (r : Rest) (l : List (ℕ × Rest)). both r (groups_of l)) first.rest others.parts; done = others.done }
+    record { rest = ap₂ (λ (r : Residual) (l : List (ℕ × Residual)). both r (groups_of l)) first.rest others.parts; done = others.done }
 
 pub determined : (o : Path) (v w : Typed) → Takes o v → Takes o w → frame o v ≡ frame o w → IsDetermined o v w
 determined o v w s t e =

@@ -4,9 +4,9 @@ use Rattle.std.specs.Prelude.{option_to_list, if◌then◌else◌}
 use Rattle.std.specs.List.{flat_map, AllByRecursion}
 use Rattle.mig_value.specs.Typed.{Typed, list, left, right, point, items, items_of}
 use Rattle.mig_path.specs.declared.side.Side.TheVariants.{Left, Right}
-use Rattle.mig_path.specs.Fields.{null, under, has_literal}
+use Rattle.mig_path.specs.Fields.{null, value_under, has_literal}
 use Rattle.mig_path.specs.Path.{Path, here, field_at, may_field, case_of, each, side, cross, then_, Takes, foci, over, over_field}
-use Rattle.mig_path.specs.Rest.{whole, stays, rest_for, field_rest, part_of, groups_of, join, joins, AreFormed, total, group_count, Fits}
+use Rattle.mig_path.specs.Rest.{whole, stays, rest_for, field_rest, part_of, groups_of, join, joins, AreFormed, total, group_count, FitsFoci}
 use Rattle.std.proofs.lemmas.List.{length-append, map-append, map-id}
 use Rattle.mig_path.proofs.Sequences.{list_of_items}
 use Rattle.mig_path.proofs.Records.{with_with, with_same}
@@ -36,8 +36,8 @@ joins_over q f h (w ∷ ws) t =
 
 pub join_over : (o : Path) (f : Typed → Typed) (v : Typed) → Takes o v → join (rest_for o v) (map f (foci o v)) ≡ over o f v
 join_over here f v t = refl
-join_over (field_at x) f v t = field_over x f (under x v) v
-join_over (may_field x) f v t = field_over x f (under x v) v
+join_over (field_at x) f v t = field_over x f (value_under x v) v
+join_over (may_field x) f v t = field_over x f (value_under x v) v
 join_over (case_of l) f v t = case_over (has_literal l v) f v
 join_over each f (list vs) t = refl
 join_over each f v t = absurd t
@@ -51,7 +51,7 @@ join_over cross f v t = absurd t
 join_over (then_ p q) f v t = ap (join (rest_for p v)) (joins_over q f (join_over q f) (foci p v) t.1) ∙ join_over p (over q f) v t.0
 
 -- ---- nothing done
-field_same : (x : List ℕ) (o : Option Typed) (v : Typed) → under x v ≡ o → over_field x (λ w. w) o v ≡ v
+field_same : (x : List ℕ) (o : Option Typed) (v : Typed) → value_under x v ≡ o → over_field x (λ w. w) o v ≡ v
 field_same x None v e = refl
 field_same x (Some w) v e = with_same x w v e
 
@@ -65,8 +65,8 @@ each_same g P k (w ∷ ws) h = ap₂ (λ (x : Typed) (l : List Typed). x ∷ l) 
 
 pub over_same : (o : Path) (v : Typed) → Takes o v → over o (λ w. w) v ≡ v
 over_same here v t = refl
-over_same (field_at x) v t = field_same x (under x v) v refl
-over_same (may_field x) v t = field_same x (under x v) v refl
+over_same (field_at x) v t = field_same x (value_under x v) v refl
+over_same (may_field x) v t = field_same x (value_under x v) v refl
 over_same (case_of l) v t = case_same (has_literal l v) v
 over_same each (list vs) t = ap (λ (l : List Typed). list (items_of l)) (map-id (items vs)) ∙ ap list (list_of_items vs)
 over_same each v t = absurd t
@@ -87,11 +87,11 @@ pub parted : (o : Path) (v : Typed) → Takes o v → join (rest_for o v) (foci 
 parted o v t = ap (join (rest_for o v)) (sym (map-id (foci o v))) ∙ join_over o (λ w. w) v t ∙ over_same o v t
 
 -- ---- a rest wants as many foci as there are
-field_fits : (x : List ℕ) (o : Option Typed) (v : Typed) → Fits (field_rest x o v) (length (option_to_list o))
+field_fits : (x : List ℕ) (o : Option Typed) (v : Typed) → FitsFoci (field_rest x o v) (length (option_to_list o))
 field_fits x None v = (tt, refl)
 field_fits x (Some w) v = (tt, refl)
 
-case_fits : (b : Bool) (v : Typed) → Fits (if b then whole else stays v) (length (if b then v ∷ [] else []))
+case_fits : (b : Bool) (v : Typed) → FitsFoci (if b then whole else stays v) (length (if b then v ∷ [] else []))
 case_fits true v = (tt, refl)
 case_fits false v = (tt, refl)
 
@@ -101,7 +101,7 @@ pub record Grouped (q : Path) (ws : List Typed) : Type 0 where
   pub enough : length (flat_map (foci q) ws) ≡ total (groups_of (map (part_of q) ws))
   pub as_many : group_count (groups_of (map (part_of q) ws)) ≡ length ws
 
-grouped : (q : Path) → ((v : Typed) → Takes q v → Fits (rest_for q v) (length (foci q v))) → (ws : List Typed) → AllByRecursion (Takes q) ws → Grouped q ws
+grouped : (q : Path) → ((v : Typed) → Takes q v → FitsFoci (rest_for q v) (length (foci q v))) → (ws : List Typed) → AllByRecursion (Takes q) ws → Grouped q ws
 grouped q h [] t = record { formed = tt; enough = refl; as_many = refl }
 grouped q h (w ∷ ws) t =
     let rest = grouped q h ws t.1 in
@@ -112,10 +112,10 @@ grouped q h (w ∷ ws) t =
       as_many = ap suc rest.as_many;
     }
 
-pub fits : (o : Path) (v : Typed) → Takes o v → Fits (rest_for o v) (length (foci o v))
+pub fits : (o : Path) (v : Typed) → Takes o v → FitsFoci (rest_for o v) (length (foci o v))
 fits here v t = (tt, refl)
-fits (field_at x) v t = field_fits x (under x v) v
-fits (may_field x) v t = field_fits x (under x v) v
+fits (field_at x) v t = field_fits x (value_under x v) v
+fits (may_field x) v t = field_fits x (value_under x v) v
 fits (case_of l) v t = case_fits (has_literal l v) v
 fits each (list vs) t = (tt, refl)
 fits each v t = absurd t

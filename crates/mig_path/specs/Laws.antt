@@ -4,7 +4,7 @@ use Rattle.std.specs.List.{flat_map, AllByRecursion}
 use Rattle.mig_value.specs.Typed.{Typed}
 use Rattle.mig_path.specs.Fields.{null}
 use Rattle.mig_path.specs.Path.{Path, then_, foci, Takes, crossed, over, frame}
-use Rattle.mig_path.specs.Rest.{rest_for, join, Fits, GivesBack}
+use Rattle.mig_path.specs.Rest.{rest_for, join, FitsFoci, GivesBack}
 
 -- rejoining what was parted gives the value
 abbrev pub PartedRejoins : Type 0
@@ -12,7 +12,7 @@ PartedRejoins = (o : Path) (v : Typed) → Takes o v → join (rest_for o v) (fo
 
 -- what was parted may be rejoined, and its foci can be given back
 pub record CanRejoin (o : Path) (v : Typed) : Type 0 where
-  pub fits : Fits (rest_for o v) (length (foci o v))
+  pub fits : FitsFoci (rest_for o v) (length (foci o v))
   pub gives_back : GivesBack o (rest_for o v) (foci o v)
 
 abbrev pub PartsCanRejoin : Type 0

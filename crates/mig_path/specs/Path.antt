@@ -4,7 +4,7 @@ use Rattle.std.specs.List.{flat_map, AllByRecursion}
 use Rattle.mig_value.specs.Typed.{Typed, list, left, right, rec, point, items, items_of}
 use Rattle.mig_path.specs.declared.side.Side.{Side}
 use Rattle.mig_path.specs.declared.side.Side.TheVariants.{Left, Right}
-use Rattle.mig_path.specs.Fields.{null, under, with_under, tag_of, has_literal}
+use Rattle.mig_path.specs.Fields.{null, value_under, with_value_under, tag_of, has_literal}
 
 pub data Path : Type 0 where
   here : Path
@@ -19,8 +19,8 @@ pub data Path : Type 0 where
 -- the foci, in order
 abbrev pub foci : Path → Typed → List Typed
 foci here v = v ∷ []
-foci (field_at x) v = option_to_list (under x v)
-foci (may_field x) v = option_to_list (under x v)
+foci (field_at x) v = option_to_list (value_under x v)
+foci (may_field x) v = option_to_list (value_under x v)
 foci (case_of l) v = if has_literal l v then v ∷ [] else []
 foci each (list vs) = items vs
 foci (side Left) (left v) = v ∷ []
@@ -32,7 +32,7 @@ foci _ _ = []
 -- the values that an optic takes
 abbrev pub Takes : Path → Typed → Type 0
 Takes here v = Unit {0}
-Takes (field_at x) v = IsTrue (is_some (under x v))
+Takes (field_at x) v = IsTrue (is_some (value_under x v))
 Takes (may_field x) (rec fs tag cs rs) = Unit {0}
 Takes (case_of l) v = IsTrue (is_some (tag_of v))
 Takes each (list vs) = Unit {0}
@@ -55,13 +55,13 @@ crossed _ v = 0
 -- the record value with f done at the value under a name, where there is one
 abbrev pub over_field : List ℕ → (Typed → Typed) → Option Typed → Typed → Typed
 over_field x f None v = v
-over_field x f (Some w) v = with_under x (f w) v
+over_field x f (Some w) v = with_value_under x (f w) v
 
 -- the value with f done at each focus
 abbrev pub over : Path → (Typed → Typed) → Typed → Typed
 over here f v = f v
-over (field_at x) f v = over_field x f (under x v) v
-over (may_field x) f v = over_field x f (under x v) v
+over (field_at x) f v = over_field x f (value_under x v) v
+over (may_field x) f v = over_field x f (value_under x v) v
 over (case_of l) f v = if has_literal l v then f v else v
 over each f (list vs) = list (items_of (map f (items vs)))
 over (side Left) f (left v) = left (f v)

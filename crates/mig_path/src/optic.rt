@@ -2,7 +2,7 @@
 ghost use Rattle.std.specs.Prelude.{◌≡◌, ◌+◌, ◌≤◌, IfOk, length, map};
 ghost use Rattle.mig_value.specs.View.{typed_of};
 ghost use Rattle.mig_path.specs.Path.{Path, foci, Takes, crossed};
-ghost use Rattle.mig_path.specs.Rest.{Rest, rest_for, join, Fits};
+ghost use Rattle.mig_path.specs.Rest.{Residual, rest_for, join, FitsFoci};
 
 use crate::{Counter, Memory, Value};
 use std::alloc::Global;
@@ -14,7 +14,7 @@ pub trait Optic<'a> {
 
     ghost path: { Self → Path };
 
-    ghost rest: { Self.Residue → Rest };
+    ghost rest: { Self.Residue → Residual };
 
     /// Takes a value apart. It moves the foci and copies none; the list of foci is allocated, and for an optic after another one list more for each focus of the first.
     fn part<C: Counter>(
@@ -38,6 +38,6 @@ pub trait Optic<'a> {
         foci: Vec<Value<'a>>,
         residue: Self::Residue,
     ) -> Result<Value<'a>, Memory>
-        requires { Fits (rest residue) (length foci.items) }
+        requires { FitsFoci (rest residue) (length foci.items) }
         ensures { IfOk result (λ w. typed_of w ≡ join (rest residue) (map typed_of foci.entry.items)) };
 }

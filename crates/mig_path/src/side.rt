@@ -1,7 +1,7 @@
 //! The optic to a side of a sum.
 ghost use Rattle.std.specs.Prelude.{◌≡◌, length, map};
 ghost use Rattle.mig_value.specs.View.{typed_of};
-ghost use Rattle.mig_path.specs.Rest.{Fits, join};
+ghost use Rattle.mig_path.specs.Rest.{FitsFoci, join};
 
 use crate::lists::{only, single};
 use crate::{Counter, Memory, Optic, Value};
@@ -46,7 +46,7 @@ impl<'a> SideRest<'a> {
 
     /// The value of these foci and this residue. It takes no memory.
     pub fn rejoin(self, foci: Vec<Value<'a>>) -> Value<'a>
-        requires { Fits (side_rest self) (length foci.items) }
+        requires { FitsFoci (side_rest self) (length foci.items) }
         ensures { typed_of result ≡ join (side_rest self.entry) (map typed_of foci.entry.items) }
     {
         match self {

@@ -6,14 +6,13 @@ use Rattle.std.specs.Ordering.{is_eq}
 use Rattle.std.specs.declared.cmp.Ordering.{Ordering}
 use Rattle.std.specs.declared.cmp.Ordering.TheVariants.{Less, Equal, Greater}
 use Rattle.std.proofs.lemmas.Map.Lookups.{exact_bytes}
-use Rattle.mig_model.specs.Names.{by_bytes}
-use Rattle.mig_model.specs.Template.{same_name}
+use Rattle.mig_model.specs.Names.{by_bytes, same_name}
 use Rattle.mig_value.specs.Typed.{Typed, Slot, rec, slot, slots_of}
 use Rattle.mig_value.specs.Parts.{RecordParts, record_of}
 use Rattle.mig_value.specs.declared.place.SlotPlace.{SlotPlace}
 use Rattle.mig_value.specs.declared.place.SlotPlace.TheVariants.{Field, Cased}
-use Rattle.mig_value.specs.Places.{place_in, value_at, with_value_at, first_place, place_of, IsPlace, value_there, with_value_there}
-use Rattle.mig_path.specs.Fields.{null, value_in, with_value, under, with_under}
+use Rattle.mig_value.specs.Places.{place_in, value_at, with_value_at, first_place, slot_place, IsPlace, value_there, with_value_there}
+use Rattle.mig_path.specs.Fields.{null, value_in, with_value, value_under, with_value_under}
 use Rattle.mig_record_optic.specs.Holes.{name_at, name_there, IsFirst}
 
 is_same : (x n : List ℕ) → same_name x n ≡ true → n ≡ x
@@ -80,9 +79,9 @@ no_place x (s ∷ ss) e = by (same_name x s.0) e (no_place x ss)
 pub record AtName (x : List ℕ) (place : SlotPlace) (p : RecordParts) : Type 0 where
   pub is_place : IsPlace place p
   pub name : name_there place p ≡ x
-  pub value : under x (record_of p) ≡ Some (value_there place p)
-  pub changed : (w : Typed) → record_of (with_value_there place w p) ≡ with_under x w (record_of p)
-  pub stays : (w : Typed) → place_of x (with_value_there place w p) ≡ Some place
+  pub value : value_under x (record_of p) ≡ Some (value_there place p)
+  pub changed : (w : Typed) → record_of (with_value_there place w p) ≡ with_value_under x w (record_of p)
+  pub stays : (w : Typed) → slot_place x (with_value_there place w p) ≡ Some place
 
 in_fields : (x : List ℕ) (i : ℕ) (p : RecordParts) → AtPlace x i p.fields → AtName x (Field i) p
 in_fields x i p h = record {
@@ -108,7 +107,7 @@ in_cased x i p e h =
       stays = λ w. ap (λ o. first_place o (place_in x (with_value_at i w p.cased))) e ∙ ap (λ (o : Option ℕ). option_map (λ n. Cased n) o) (h.stays w);
     }
 
-pub at_name : (x : List ℕ) (place : SlotPlace) (p : RecordParts) → place_of x p ≡ Some place → AtName x place p
+pub at_name : (x : List ℕ) (place : SlotPlace) (p : RecordParts) → slot_place x p ≡ Some place → AtName x place p
 at_name x place p e = by (place_in x p.fields) refl e
   where
     later : place_in x p.fields ≡ None → (o : Option ℕ) → place_in x p.cased ≡ o → option_map (λ n. Cased n) o ≡ Some place → AtName x place p
@@ -119,14 +118,14 @@ at_name x place p e = by (place_in x p.fields) refl e
     by None d f = later d (place_in x p.cased) refl f
     by (Some i) d f = let is : Field i ≡ place = cc in subst (λ q. AtName x q p) is (in_fields x i p (at_place x i p.fields d))
 
-pub no_name : (x : List ℕ) (p : RecordParts) → place_of x p ≡ None → under x (record_of p) ≡ None
+pub no_name : (x : List ℕ) (p : RecordParts) → slot_place x p ≡ None → value_under x (record_of p) ≡ None
 no_name x p e = by (place_in x p.fields) refl e
   where
     later : (o : Option ℕ) → place_in x p.cased ≡ o → option_map (λ n. Cased n) o ≡ None → place_in x p.cased ≡ None
     later None d f = d
     later (Some i) d f = absurd cc
 
-    by : (o : Option ℕ) → place_in x p.fields ≡ o → first_place o (place_in x p.cased) ≡ None → under x (record_of p) ≡ None
+    by : (o : Option ℕ) → place_in x p.fields ≡ o → first_place o (place_in x p.cased) ≡ None → value_under x (record_of p) ≡ None
     by None d f = ap (λ m. option_or m (value_in x (slots_of p.cased))) (no_place x p.fields d) ∙ no_place x p.cased (later (place_in x p.cased) refl f)
     by (Some i) d f = absurd cc
 
@@ -134,7 +133,7 @@ no_name x p e = by (place_in x p.fields) refl e
 pub still_first : (x : List ℕ) (place : SlotPlace) (p : RecordParts) (w : Typed) → AtName x place p → IsFirst place (with_value_there place w p)
 still_first x place p w h =
     let new = at_name x place (with_value_there place w p) (h.stays w) in
-    ap (λ n. place_of n (with_value_there place w p)) new.name ∙ h.stays w
+    ap (λ n. slot_place n (with_value_there place w p)) new.name ∙ h.stays w
 
 pub same_there : (x : List ℕ) (place : SlotPlace) (p : RecordParts) (w : Typed) → AtName x place p → name_there place (with_value_there place w p) ≡ x
 same_there x place p w h = (at_name x place (with_value_there place w p) (h.stays w)).name
@@ -143,18 +142,18 @@ abbrev in_slot : List ℕ → Typed → Slot
 in_slot n v = (n, v)
 
 -- ---- a record value whose value at the place of a name was taken out
-pub hole_first : (x : List ℕ) (place : SlotPlace) (p q : RecordParts) → place_of x p ≡ Some place → q ≡ with_value_there place null p → IsFirst place q
+pub hole_first : (x : List ℕ) (place : SlotPlace) (p q : RecordParts) → slot_place x p ≡ Some place → q ≡ with_value_there place null p → IsFirst place q
 hole_first x place p q e is = subst (λ (r : RecordParts). IsFirst place r) (sym is) (still_first x place p null (at_name x place p e))
 
-pub focus_is : (x : List ℕ) (place : SlotPlace) (p : RecordParts) (w : Typed) → place_of x p ≡ Some place → w ≡ value_there place p → under x (record_of p) ≡ Some w
+pub focus_is : (x : List ℕ) (place : SlotPlace) (p : RecordParts) (w : Typed) → slot_place x p ≡ Some place → w ≡ value_there place p → value_under x (record_of p) ≡ Some w
 focus_is x place p w e is = (at_name x place p e).value ∙ ap (λ (v : Typed). Some v) (sym is)
 
-pub hole_is : (x : List ℕ) (place : SlotPlace) (p q : RecordParts) → place_of x p ≡ Some place → q ≡ with_value_there place null p → ◌≡◌ {A = Slot} (name_there place q, record_of q) (x, with_under x null (record_of p))
+pub hole_is : (x : List ℕ) (place : SlotPlace) (p q : RecordParts) → slot_place x p ≡ Some place → q ≡ with_value_there place null p → ◌≡◌ {A = Slot} (name_there place q, record_of q) (x, with_value_under x null (record_of p))
 hole_is x place p q e is =
     let at : AtName x place p = at_name x place p e in
     ap (λ (r : RecordParts). in_slot (name_there place r) (record_of r)) is ∙ ap₂ in_slot (same_there x place p null at) (at.changed null)
 
 -- the record value with another value in the hole
-pub filled : (place : SlotPlace) (p q : RecordParts) (w : Typed) (h : Slot) → IsFirst place p → q ≡ with_value_there place w p → ◌≡◌ {A = Slot} (name_there place p, record_of p) h → record_of q ≡ with_under h.0 w h.1
+pub filled : (place : SlotPlace) (p q : RecordParts) (w : Typed) (h : Slot) → IsFirst place p → q ≡ with_value_there place w p → ◌≡◌ {A = Slot} (name_there place p, record_of p) h → record_of q ≡ with_value_under h.0 w h.1
 filled place p q w h first is view =
-    ap record_of is ∙ (at_name (name_there place p) place p first).changed w ∙ ap (λ (s : Slot). with_under s.0 w s.1) view
+    ap record_of is ∙ (at_name (name_there place p) place p first).changed w ∙ ap (λ (s : Slot). with_value_under s.0 w s.1) view

@@ -4,7 +4,7 @@ use Rattle.mig_value.specs.declared.place.SlotPlace.{SlotPlace}
 use Rattle.mig_value.specs.declared.place.SlotPlace.TheVariants.{Field, Cased}
 use Rattle.mig_value.specs.Typed.{Slot}
 use Rattle.mig_value.specs.Parts.{RecordParts}
-use Rattle.mig_value.specs.Places.{place_of}
+use Rattle.mig_value.specs.Places.{slot_place}
 
 abbrev pub name_at : ℕ → List Slot → List ℕ
 name_at n [] = []
@@ -18,4 +18,4 @@ name_there (Cased n) p = name_at n p.cased
 
 -- it is the first place of its name
 abbrev pub IsFirst : SlotPlace → RecordParts → Type 0
-IsFirst place p = place_of (name_there place p) p ≡ Some place
+IsFirst place p = slot_place (name_there place p) p ≡ Some place

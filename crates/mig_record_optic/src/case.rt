@@ -1,8 +1,8 @@
 //! The optic of a case.
 ghost use Rattle.std.specs.Prelude.{◌≡◌, IsTrue, is_some, length, map};
 ghost use Rattle.mig_value.specs.View.{typed_of};
-ghost use Rattle.mig_path.specs.Fields.{is_literal};
-ghost use Rattle.mig_path.specs.Rest.{Fits, join};
+ghost use Rattle.mig_path.specs.Fields.{is_tagged_as};
+ghost use Rattle.mig_path.specs.Rest.{FitsFoci, join};
 
 use mig_path::{Counter, Memory, Name, Optic, Value, only, single};
 use mig_value::RecValue;
@@ -25,7 +25,7 @@ pub enum CaseRest<'a> {
 /// Whether the tag of the record value has this literal.
 fn is_case(parts: &RecValue, literal: &Name) -> bool
     requires { IsTrue (is_some parts.now.tag) }
-    ensures { result ≡ is_literal literal.now parts.now.tag }
+    ensures { result ≡ is_tagged_as literal.now parts.now.tag }
 {
     match parts.tag() {
         Some((_, text)) => literal.bytes().cmp(text.bytes()) == Ordering::Equal,
@@ -38,7 +38,7 @@ impl<'a> CaseRest<'a> {
 
     /// The value of these foci and this residue. It takes no memory.
     pub fn rejoin(self, foci: Vec<Value<'a>>) -> Value<'a>
-        requires { Fits (case_rest self) (length foci.items) }
+        requires { FitsFoci (case_rest self) (length foci.items) }
         ensures { typed_of result ≡ join (case_rest self.entry) (map typed_of foci.entry.items) }
     {
         match self {

@@ -1,7 +1,7 @@
 //! The optics to a field, and record values with a hole in place of one.
 ghost use Rattle.std.specs.Prelude.{◌≡◌, None, Some, IfErr, IfOk, length, map};
 ghost use Rattle.mig_value.specs.View.{typed_of};
-ghost use Rattle.mig_path.specs.Rest.{Fits, join};
+ghost use Rattle.mig_path.specs.Rest.{FitsFoci, join};
 
 use mig_path::{Counter, Memory, Name, Optic, Value, only, single};
 use mig_value::{RecValue, SlotPlace, Tree};
@@ -45,14 +45,14 @@ impl<'a> Model for Hole<'a> {
 
 impl<'a> Hole<'a> {
     ghost use Rattle.mig_value.specs.Parts.{record_of};
-    ghost use Rattle.mig_path.specs.Fields.{null, under, with_under};
+    ghost use Rattle.mig_path.specs.Fields.{null, value_under, with_value_under};
 
     /// Takes the value under the name out. A record value without it comes back in `Err`.
     /// It takes log n comparisons, and no memory.
     pub fn open(value: RecValue<'a>, name: &Name) -> Result<(Value<'a>, Hole<'a>), RecValue<'a>>
-        ensures focus { IfOk result (λ x. under name.now (record_of value.entry) ≡ Some (typed_of x.0)) }
-        ensures hole { IfOk result (λ x. x.1 ≡ (name.now, with_under name.now null (record_of value.entry))) }
-        ensures absent { IfErr result (λ _. under name.now (record_of value.entry) ≡ None) }
+        ensures focus { IfOk result (λ x. value_under name.now (record_of value.entry) ≡ Some (typed_of x.0)) }
+        ensures hole { IfOk result (λ x. x.1 ≡ (name.now, with_value_under name.now null (record_of value.entry))) }
+        ensures absent { IfErr result (λ _. value_under name.now (record_of value.entry) ≡ None) }
         ensures same { IfErr result (λ r. r ≡ value.entry) }
     {
         match value.place(name.bytes()) {
@@ -67,7 +67,7 @@ impl<'a> Hole<'a> {
 
     /// The record value with this value in the hole. It takes no memory.
     pub fn fill(self, value: Value<'a>) -> Value<'a>
-        ensures { typed_of result ≡ with_under self.entry.0 (typed_of value.entry) self.entry.1 }
+        ensures { typed_of result ≡ with_value_under self.entry.0 (typed_of value.entry) self.entry.1 }
     {
         let Hole { mut parts, place } = self;
         drop(parts.swap(place, value));
@@ -87,7 +87,7 @@ impl<'a> MayRest<'a> {
 
     /// The value of these foci and this residue. It takes no memory.
     pub fn rejoin(self, foci: Vec<Value<'a>>) -> Value<'a>
-        requires { Fits (may_rest self) (length foci.items) }
+        requires { FitsFoci (may_rest self) (length foci.items) }
         ensures { typed_of result ≡ join (may_rest self.entry) (map typed_of foci.entry.items) }
     {
         match self {

@@ -6,7 +6,7 @@ use Rattle.mig_value.specs.Typed.{Typed}
 use Rattle.mig_value.specs.View.{typed_of}
 use Rattle.mig_value.specs.declared.value.Value.{Value}
 use Rattle.mig_path.specs.Path.{Path, then_, foci, crossed, total_of}
-use Rattle.mig_path.specs.Rest.{Rest, rest_for, both, Groups, no_group, group, part_of, groups_of, joins, join, AreFormed, group_count, total, Fits}
+use Rattle.mig_path.specs.Rest.{Residual, rest_for, both, Groups, no_group, group, part_of, groups_of, joins, join, AreFormed, group_count, total, FitsFoci}
 use Rattle.std.proofs.Math.Seq.{drop-cons}
 use Rattle.std.proofs.lemmas.Grind.{flat_map-append}
 use Rattle.mig_typed_optic.proofs.Views.{length_views}
@@ -20,30 +20,30 @@ total_more f [] y = omega arith
 total_more f (x ∷ xs) y = let i = total_more f xs y in omega (arith, i)
 
 -- the foci, the groups and the count after some of the values
-pub record Parted (q : Path) (fs : List Typed) (gs : List (ℕ × Rest)) (n start : ℕ) (vs : List Typed) : Type 0 where
+pub record Parted (q : Path) (fs : List Typed) (gs : List (ℕ × Residual)) (n start : ℕ) (vs : List Typed) : Type 0 where
   pub foci_are : fs ≡ flat_map (foci q) vs
   pub groups_are : gs ≡ map (part_of q) vs
   pub counts : n ≡ start + total_of (crossed q) vs
 
-parted_step : (q : Path) (fs : List Typed) (gs : List (ℕ × Rest)) (n start : ℕ) (vs : List Typed) (w : Typed) → Parted q fs gs n start vs → Parted q (fs ++ foci q w) (gs ++ part_of q w ∷ []) (n + crossed q w) start (vs ++ w ∷ [])
+parted_step : (q : Path) (fs : List Typed) (gs : List (ℕ × Residual)) (n start : ℕ) (vs : List Typed) (w : Typed) → Parted q fs gs n start vs → Parted q (fs ++ foci q w) (gs ++ part_of q w ∷ []) (n + crossed q w) start (vs ++ w ∷ [])
 parted_step q fs gs n start vs w h = record {
   foci_are = ap (λ l. l ++ foci q w) h.foci_are ∙ sym (flat_more (foci q) vs w);
   groups_are = ap (λ l. l ++ part_of q w ∷ []) h.groups_are ∙ sym (map-append (part_of q) vs (w ∷ []));
   counts = let c = h.counts in let t = total_more (crossed q) vs w in omega (arith, c, t);
 }
 
-pub parted_next : {G : Type 0} (q : Path) (f : G → ℕ × Rest) (n m start : ℕ) (fs fs' more : List Value) (r : Rest) (gs gs' : List G) (x : G) (vs : List Value) (w : Value) → fs' ≡ fs ++ more → gs' ≡ gs ++ x ∷ [] → f x ≡ (length more, r) → map typed_of more ≡ foci q (typed_of w) → r ≡ rest_for q (typed_of w) → m ≡ n + crossed q (typed_of w) → Parted q (map typed_of fs) (map f gs) n start (map typed_of vs) → Parted q (map typed_of fs') (map f gs') m start (map typed_of (vs ++ w ∷ []))
+pub parted_next : {G : Type 0} (q : Path) (f : G → ℕ × Residual) (n m start : ℕ) (fs fs' more : List Value) (r : Residual) (gs gs' : List G) (x : G) (vs : List Value) (w : Value) → fs' ≡ fs ++ more → gs' ≡ gs ++ x ∷ [] → f x ≡ (length more, r) → map typed_of more ≡ foci q (typed_of w) → r ≡ rest_for q (typed_of w) → m ≡ n + crossed q (typed_of w) → Parted q (map typed_of fs) (map f gs) n start (map typed_of vs) → Parted q (map typed_of fs') (map f gs') m start (map typed_of (vs ++ w ∷ []))
 parted_next q f n m start fs fs' more r gs gs' x vs w ef eg ex em er en h =
     let many : length more ≡ length (foci q (typed_of w)) = sym (length_views more) ∙ ap length em in
-    let y : f x ≡ part_of q (typed_of w) = ex ∙ ap₂ (λ (k : ℕ) (s : Rest). (k, s)) many er in
+    let y : f x ≡ part_of q (typed_of w) = ex ∙ ap₂ (λ (k : ℕ) (s : Residual). (k, s)) many er in
     let a : map typed_of fs' ≡ map typed_of fs ++ foci q (typed_of w) = ap (map typed_of) ef ∙ map-append typed_of fs more ∙ ap (λ (l : List Typed). map typed_of fs ++ l) em in
-    let b : map f gs' ≡ map f gs ++ part_of q (typed_of w) ∷ [] = ap (map f) eg ∙ map-append f gs (x ∷ []) ∙ ap (λ (z : ℕ × Rest). map f gs ++ z ∷ []) y in
+    let b : map f gs' ≡ map f gs ++ part_of q (typed_of w) ∷ [] = ap (map f) eg ∙ map-append f gs (x ∷ []) ∙ ap (λ (z : ℕ × Residual). map f gs ++ z ∷ []) y in
     let d : map typed_of (vs ++ w ∷ []) ≡ map typed_of vs ++ typed_of w ∷ [] = map-append typed_of vs (w ∷ []) in
     rw (a, b, en, d) (parted_step q (map typed_of fs) (map f gs) n start (map typed_of vs) (typed_of w) h)
 
 -- the rest of an optic after another
-pub both_are : (p q : Path) (v : Typed) (r : Rest) (gs : List (ℕ × Rest)) (vs : List Typed) → r ≡ rest_for p v → gs ≡ map (part_of q) vs → vs ≡ foci p v → both r (groups_of gs) ≡ rest_for (then_ p q) v
-both_are p q v r gs vs a b e = ap₂ (λ (x : Rest) (l : List (ℕ × Rest)). both x (groups_of l)) a (b ∙ ap (map (part_of q)) e)
+pub both_are : (p q : Path) (v : Typed) (r : Residual) (gs : List (ℕ × Residual)) (vs : List Typed) → r ≡ rest_for p v → gs ≡ map (part_of q) vs → vs ≡ foci p v → both r (groups_of gs) ≡ rest_for (then_ p q) v
+both_are p q v r gs vs a b e = ap₂ (λ (x : Residual) (l : List (ℕ × Residual)). both x (groups_of l)) a (b ∙ ap (map (part_of q)) e)
 
 -- what was crossed so far with what may be crossed in the value in hand is no more than all
 pub no_more : (f : Typed → ℕ) (all xs : List Value) (w : Value) → (rest : List Value) × (all ≡ xs ++ w ∷ rest) → total_of f (map typed_of xs) + f (typed_of w) ≤ total_of f (map typed_of all)
@@ -64,12 +64,12 @@ taken P (v ∷ vs) (suc k) w h l e = taken P vs k w h.1 (omega arith) e
 
 -- ---- residues that are rejoined one after another
 -- the values so far with those of the groups and foci that are left
-pub record Rejoins (vs : List Typed) (gs : List (ℕ × Rest)) (fs all : List Typed) : Type 0 where
+pub record Rejoins (vs : List Typed) (gs : List (ℕ × Residual)) (fs all : List Typed) : Type 0 where
   pub values_are : vs ++ joins (groups_of gs) fs ≡ all
   pub formed : AreFormed (groups_of gs)
   pub enough : length fs ≡ total (groups_of gs)
 
-rejoins_step : (vs : List Typed) (n : ℕ) (s : Rest) (gs : List (ℕ × Rest)) (fs all : List Typed) → Rejoins vs ((n, s) ∷ gs) fs all → Rejoins (vs ++ join s (take n fs) ∷ []) gs (drop n fs) all
+rejoins_step : (vs : List Typed) (n : ℕ) (s : Residual) (gs : List (ℕ × Residual)) (fs all : List Typed) → Rejoins vs ((n, s) ∷ gs) fs all → Rejoins (vs ++ join s (take n fs) ∷ []) gs (drop n fs) all
 rejoins_step vs n s gs fs all h = record {
   values_are = append_assoc vs (join s (take n fs) ∷ []) (joins (groups_of gs) (drop n fs)) ∙ h.values_are;
   formed = h.formed.2;
@@ -79,13 +79,13 @@ rejoins_step vs n s gs fs all h = record {
 next_group : {G : Type 0} (gs : List G) (k : ℕ) (x : G) → k < length gs → x ≡ get_or gs k x → drop k gs ≡ x ∷ drop (suc k) gs
 next_group gs k x l e = drop-cons gs k x l ∙ ap (λ y. y ∷ drop (suc k) gs) (sym e)
 
-module _ {G : Type 0} (f : G → ℕ × Rest) (gs : List G) (all : List Typed) where
+module _ {G : Type 0} (f : G → ℕ × Residual) (gs : List G) (all : List Typed) where
   -- the next group, whose foci are there
   pub first_group : (vs fs : List Typed) (k : ℕ) (x : G) → k < length gs → x ≡ get_or gs k x → Rejoins vs (map f (drop k gs)) fs all → Rejoins vs (f x ∷ map f (drop (suc k) gs)) fs all
   first_group vs fs k x l e h = subst (λ (hs : List G). Rejoins vs (map f hs) fs all) (next_group gs k x l e) h
 
   -- its foci are as many as its rest wants
-  pub front_fits : (vs : List Typed) (fs ls : List Value) (k : ℕ) (x : G) → k < length gs → x ≡ get_or gs k x → ls ≡ take (f x).0 (reverse fs) → Rejoins vs (map f (drop k gs)) (map typed_of (reverse fs)) all → Fits (f x).1 (length ls)
+  pub front_fits : (vs : List Typed) (fs ls : List Value) (k : ℕ) (x : G) → k < length gs → x ≡ get_or gs k x → ls ≡ take (f x).0 (reverse fs) → Rejoins vs (map f (drop k gs)) (map typed_of (reverse fs)) all → FitsFoci (f x).1 (length ls)
   front_fits vs fs ls k x l e el h =
       let first = first_group vs (map typed_of (reverse fs)) k x l e h in
       let enough : (f x).0 ≤ length (reverse fs) = omega (arith, first.enough, length_views (reverse fs)) in
@@ -122,5 +122,5 @@ joins_length : (gs : Groups) (fs : List Typed) → length (joins gs fs) ≡ grou
 joins_length no_group fs = refl
 joins_length (group n r gs) fs = ap suc (joins_length gs (drop n fs))
 
-pub outer_fits : (r : Rest) (gs : Groups) (fs : List Typed) (vs : List Value) (n : ℕ) → Fits (both r gs) n → map typed_of vs ≡ joins gs fs → Fits r (length vs)
+pub outer_fits : (r : Residual) (gs : Groups) (fs : List Typed) (vs : List Value) (n : ℕ) → FitsFoci (both r gs) n → map typed_of vs ≡ joins gs fs → FitsFoci r (length vs)
 outer_fits r gs fs vs n h e = (h.0.0, sym (length_views vs) ∙ ap length e ∙ joins_length gs fs ∙ h.0.1)

@@ -1,7 +1,7 @@
 -- The tests' slots ascend, and the chain takes the tests' nodes.
 use Rattle.std.proofs.Common.{◌≡◌, ◌∙◌, refl, sym, ap, subst, ℕ, List, [], ◌∷◌, map}
 use Rattle.std.specs.List.Sorted.{IsStrictlySortedBy}
-use Rattle.mig_model.specs.Ascends.{Ascends}
+use Rattle.mig_model.specs.Names.{Ascends}
 use Rattle.mig_value.specs.declared.slots.Slot.{Slot}
 use Rattle.mig_value.specs.Typed.{Typed, left, right, list, items_of}
 use Rattle.mig_value.specs.View.{slot_of}

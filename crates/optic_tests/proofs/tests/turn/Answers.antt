@@ -3,7 +3,7 @@ use Rattle.std.specs.Prelude.{IfOk}
 use Rattle.std.proofs.lemmas.List.{length-map}
 use Rattle.mig_value.specs.View.{typed_of}
 use Rattle.mig_path.specs.Path.{foci}
-use Rattle.mig_path.specs.Rest.{Rest, rest_for, Fits}
+use Rattle.mig_path.specs.Rest.{Residual, rest_for, FitsFoci}
 use Rattle.mig_path.proofs.Over.{fits}
 use Rattle.optic_tests.proofs.tests.turn.Goals as goal
 
@@ -18,4 +18,4 @@ rejoin-requires g c κs =
     let as_many : length others ≡ length parted.0.items = omega arith in
     let count = as_many ∙ sym (length-map parted.0.items typed_of) ∙ ap length found in
     let law = fits path value c.requires in
-    ((refl, tt), subst (λ (r : Rest). Fits r (length others)) (sym rest) (law.0, count ∙ law.1))
+    ((refl, tt), subst (λ (r : Residual). FitsFoci r (length others)) (sym rest) (law.0, count ∙ law.1))

@@ -4,11 +4,11 @@ ghost use Rattle.mig_value.specs.View.{typed_of};
 ghost use Rattle.mig_path.specs.Path.{foci, Takes, crossed};
 ghost use Rattle.mig_path.specs.Rest.{rest_for};
 
+use crate::AnyResidue;
 use crate::any_residue::Held;
-use crate::{
-    AnyResidue, CaseOf, CaseRest, Counter, Cross, CrossRest, Each, EachRest, FieldAt, Here,
-    HereRest, Hole, MayField, MayRest, Memory, Optic, Side, SideRest, Value,
-};
+use mig_path::{Counter, Here, HereRest, Memory, Optic, Side, SideRest, Value};
+use mig_record_optic::{CaseOf, CaseRest, FieldAt, Hole, MayField, MayRest};
+use mig_typed_optic::{Cross, CrossRest, Each, EachRest};
 use std::alloc::Global;
 
 /// An optic whose residue an `AnyResidue` holds.
@@ -70,8 +70,8 @@ pub fn part_held<'a, O: HeldOptic<'a>, C: Counter>(
     requires { Takes (O.path optic.now) (typed_of value) }
     ensures foci { IfOk result (λ x. map typed_of x.0.items ≡ foci (O.path optic.now) (typed_of value.entry)) }
     ensures rest { IfOk result (λ x. x.1 ≡ rest_for (O.path optic.now) (typed_of value.entry)) }
-    ensures exact { IfOk result (λ _. C.counted steps.new
-        ≡ C.counted steps.old + crossed (O.path optic.now) (typed_of value.entry)) }
+    ensures exact { IfOk result (λ _. C.counted steps.new ≡ C.counted steps.old
+        + crossed (O.path optic.now) (typed_of value.entry)) }
     ensures count { C.counted steps.new ≤ C.counted steps.old + crossed (O.path optic.now) (typed_of value.entry) }
     ensures grows { C.counted steps.old ≤ C.counted steps.new }
 {

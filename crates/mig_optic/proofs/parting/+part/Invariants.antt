@@ -1,9 +1,10 @@
 use Rattle.std.proofs.Common.{◌+◌, ◌*◌, map}
 use Rattle.mig_value.specs.View.{typed_of}
-use Rattle.mig_optic.specs.AnyView.{any_path, group_pair}
+use Rattle.mig_any_residue.specs.HeldView.{group_pair}
+use Rattle.mig_optic.specs.AnyView.{any_path}
 use Rattle.mig_optic.specs.Code.{path_size}
 use Rattle.mig_typed_optic.proofs.Thens.{Parted}
-use Rattle.mig_optic.proofs.any_parts.+part.Given as goal
+use Rattle.mig_optic.proofs.parting.+part.Given as goal
 
 abbrev pub decreases-part_any : goal.decreases-part_any
 decreases-part_any g l = 3 * path_size (any_path l.optic.now)

@@ -1,8 +1,12 @@
 //! What any optic leaves of a value.
-ghost use Rattle.std.specs.Prelude.{◌≡◌, map};
-ghost use Rattle.mig_optic.specs.AnyView.{held_rest, group_pair};
+ghost use Rattle.std.specs.Prelude.{◌≡◌, IfOk, map};
+ghost use Rattle.mig_path.specs.Rest.{both, groups_of};
+ghost use Rattle.mig_any_residue.specs.HeldView.{held_rest, group_pair};
 
-use crate::{CaseRest, CrossRest, EachRest, Hole, MayRest, SideRest};
+use mig_path::{Memory, SideRest};
+use mig_record_optic::{CaseRest, Hole, MayRest};
+use mig_typed_optic::{CrossRest, EachRest};
+use std::alloc::Global;
 use std::marker::Model;
 
 /// What is left of a value without the foci of an `AnyOptic`. Contracts see the rest that it stands for.
@@ -29,7 +33,7 @@ pub(crate) enum Held<'a> {
 /// What is left of one focus of the first optic, and how many foci the second has there.
 #[cycle(any_residue)]
 #[derive(Debug, Drop)]
-pub(crate) struct AnyGroup<'a> {
+pub struct AnyGroup<'a> {
     pub count: usize,
     pub residue: AnyResidue<'a>,
 }
@@ -37,47 +41,47 @@ pub(crate) struct AnyGroup<'a> {
 /// What is left of each focus of the first optic.
 #[cycle(any_residue)]
 #[derive(Debug, Drop)]
-pub(crate) struct AnyGroups<'a> {
+pub struct AnyGroups<'a> {
     list: Vec<AnyGroup<'a>>,
 }
 
 impl<'a> Model for AnyResidue<'a> {
-    ghost use Rattle.mig_path.specs.Rest.{Rest};
-    ghost use Rattle.mig_optic.specs.Code.{rest_size, coded_rest};
+    ghost use Rattle.mig_path.specs.Rest.{Residual};
+    ghost use Rattle.mig_any_residue.specs.RestCode.{rest_size, coded_rest};
 
-    ghost Value = { Rest };
+    ghost Value = { Residual };
 
     ghost coded = { coded_rest };
 
-    ghost use Rattle.mig_optic.specs.AnyView.{held_rest};
+    ghost use Rattle.mig_any_residue.specs.HeldView.{held_rest};
 
     ghost view = { λ a. held_rest a.held };
 
     ghost size = { rest_size };
 
     ghost use Rattle.std.proofs.Common.{arith};
-    ghost use Rattle.mig_optic.specs.AnyFalls.{deep_rest};
+    ghost use Rattle.mig_any_residue.specs.HeldFalls.{deep_rest};
 
     ghost size_decreases = { λ a h. omega (arith, deep_rest a.held) };
 }
 
 impl<'a> Model for AnyGroups<'a> {
     ghost use Rattle.std.specs.Prelude.{List, ℕ, map};
-    ghost use Rattle.mig_path.specs.Rest.{Rest};
-    ghost use Rattle.mig_optic.specs.Code.{list_size, coded_groups};
+    ghost use Rattle.mig_path.specs.Rest.{Residual};
+    ghost use Rattle.mig_any_residue.specs.RestCode.{list_size, coded_groups};
 
-    ghost Value = { List (ℕ × Rest) };
+    ghost Value = { List (ℕ × Residual) };
 
     ghost coded = { coded_groups };
 
-    ghost use Rattle.mig_optic.specs.AnyView.{group_pair};
+    ghost use Rattle.mig_any_residue.specs.HeldView.{group_pair};
 
     ghost view = { λ a. map group_pair a.list.items };
 
     ghost size = { list_size };
 
     ghost use Rattle.std.proofs.Common.{arith};
-    ghost use Rattle.mig_optic.specs.AnyFalls.{most_groups};
+    ghost use Rattle.mig_any_residue.specs.HeldFalls.{most_groups};
 
     ghost size_decreases = { λ a h. omega (arith, most_groups a.list.items) };
 }
@@ -88,6 +92,18 @@ impl<'a> AnyResidue<'a> {
         ensures { result ≡ held_rest held.entry }
     {
         AnyResidue { held }
+    }
+
+    /// The residue of an optic after another: that of the first, and that of the second at each focus of it.
+    pub fn both(
+        alloc: Global,
+        outer: AnyResidue<'a>,
+        inner: Vec<AnyGroup<'a>>,
+    ) -> Result<AnyResidue<'a>, Memory>
+        ensures { IfOk result (λ r. r ≡ both outer.entry (groups_of (map group_pair inner.entry.items))) }
+    {
+        let outer = Box::new(alloc, outer)?;
+        Ok(AnyResidue::new(Held::Both(outer, AnyGroups::new(inner))))
     }
 
     /// Gives up what it holds.

@@ -5,11 +5,12 @@ use Rattle.std.proofs.lemmas.Iterator.Consumers.{YieldsList-turn}
 use Rattle.std.proofs.lemmas.Result.{IfOk-weaker}
 use Rattle.mig_model.proofs.Loops.{in_hand}
 use Rattle.mig_value.specs.View.{typed_of}
-use Rattle.mig_optic.specs.AnyView.{any_path, group_pair}
+use Rattle.mig_any_residue.specs.HeldView.{group_pair}
+use Rattle.mig_optic.specs.AnyView.{any_path}
 use Rattle.mig_path.specs.Path.{Takes, foci, crossed, total_of, then_}
 use Rattle.mig_path.specs.Rest.{rest_for, both, groups_of}
 use Rattle.mig_typed_optic.proofs.Thens.{taken, parted_next, no_more_crossed, both_are}
-use Rattle.mig_optic.proofs.any_parts.+part.Goals as goal
+use Rattle.mig_optic.proofs.parting.+part.Goals as goal
 
 pub part_each-part_any-requires : goal.part_each-part_any-requires
 part_each-part_any-requires g t c κs within =

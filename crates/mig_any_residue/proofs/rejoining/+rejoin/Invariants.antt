@@ -1,10 +1,10 @@
 use Rattle.std.proofs.Common.{◌+◌, ◌*◌, map, length, drop, reverse}
 use Rattle.mig_value.specs.View.{typed_of}
-use Rattle.mig_optic.specs.AnyView.{group_pair}
-use Rattle.mig_optic.specs.Code.{rest_size, list_size}
+use Rattle.mig_any_residue.specs.HeldView.{group_pair}
+use Rattle.mig_any_residue.specs.RestCode.{rest_size, list_size}
 use Rattle.mig_path.specs.Rest.{groups_of, joins}
 use Rattle.mig_typed_optic.proofs.Thens.{Rejoins}
-use Rattle.mig_optic.proofs.any_parts.+rejoin.Given as goal
+use Rattle.mig_any_residue.proofs.rejoining.+rejoin.Given as goal
 
 abbrev pub decreases-rejoin_any : goal.decreases-rejoin_any
 decreases-rejoin_any l = 2 * rest_size l.residue

@@ -2,22 +2,22 @@ use Rattle.std.proofs.Common.{◌≡◌, ◌∙◌, ℕ, List, ap, subst, sym, l
 use Rattle.std.proofs.lemmas.Iterator.Adapters.{YieldsList-from_vec}
 use Rattle.std.proofs.lemmas.Iterator.Consumers.{YieldsList-turn}
 use Rattle.mig_value.specs.View.{typed_of}
-use Rattle.mig_optic.specs.AnyView.{group_pair}
-use Rattle.mig_optic.specs.Code.{rest_size}
-use Rattle.mig_path.specs.Rest.{Rest, both, groups_of, joins, Fits}
+use Rattle.mig_any_residue.specs.HeldView.{group_pair}
+use Rattle.mig_any_residue.specs.RestCode.{rest_size}
+use Rattle.mig_path.specs.Rest.{Residual, both, groups_of, joins, FitsFoci}
 use Rattle.std.proofs.lemmas.List.{length_push}
 use Rattle.mig_typed_optic.proofs.Thens.{outer_fits, front_fits, rejoins_next}
-use Rattle.mig_optic.proofs.Sizes.{smaller}
-use Rattle.mig_optic.proofs.any_parts.+rejoin.Goals as goal
+use Rattle.mig_any_residue.proofs.Sizes.{smaller}
+use Rattle.mig_any_residue.proofs.rejoining.+rejoin.Goals as goal
 
 pub rejoin_any-rejoin_any-requires : goal.rejoin_any-rejoin_any-requires
 rejoin_any-rejoin_any-requires t c =
     let is : both c.in-Both.outer.value (groups_of c.in-Both.inner) ≡ c.args.residue = c.in-Both.ensures in
-    let fits : Fits (both c.in-Both.outer.value (groups_of c.in-Both.inner)) (length c.args.foci.items) = subst (λ (r : Rest). Fits r (length c.args.foci.items)) (sym is) c.requires in
-    let inner : Fits c.in-Both.outer.value (length c.in_ok-values-in-Both.values.items) =
+    let fits : FitsFoci (both c.in-Both.outer.value (groups_of c.in-Both.inner)) (length c.args.foci.items) = subst (λ (r : Residual). FitsFoci r (length c.args.foci.items)) (sym is) c.requires in
+    let inner : FitsFoci c.in-Both.outer.value (length c.in_ok-values-in-Both.values.items) =
     outer_fits c.in-Both.outer.value (groups_of c.in-Both.inner) (map typed_of c.args.foci.items) c.in_ok-values-in-Both.values.items (length c.args.foci.items) fits
-    (c.in_ok-values-in-Both.ensures ∙ ap (λ (l : List (ℕ × Rest)). joins (groups_of l) (map typed_of c.args.foci.items)) c.into_vec.ensures) in
-    (omega (arith, c.decreases, ap rest_size is, ap rest_size c.into_inner.ensures), subst (λ (r : Rest). Fits r (length c.in_ok-values-in-Both.values.items)) (sym c.into_inner.ensures) inner)
+    (c.in_ok-values-in-Both.ensures ∙ ap (λ (l : List (ℕ × Residual)). joins (groups_of l) (map typed_of c.args.foci.items)) c.into_vec.ensures) in
+    (omega (arith, c.decreases, ap rest_size is, ap rest_size c.into_inner.ensures), subst (λ (r : Residual). FitsFoci r (length c.in_ok-values-in-Both.values.items)) (sym c.into_inner.ensures) inner)
 
 pub rejoin_each-rejoin_any-requires : goal.rejoin_each-rejoin_any-requires
 rejoin_each-rejoin_any-requires t c =

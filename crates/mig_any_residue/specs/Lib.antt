@@ -1,0 +1,3 @@
+pub mod RestCode
+pub mod HeldView
+pub mod HeldFalls

@@ -2,9 +2,11 @@
 use Rattle.std.proofs.Common.{◌≡◌, ℕ, ◌≤◌, ◌^◌, pos, negsuc, List, length, Some, true, ℤ, nat_lt, option_map, refl, ap, ◌∙◌}
 use Rattle.std.proofs.lemmas.Bool.{lt-ltb}
 use Rattle.serde_json.specs.Find.{as_i64, of_integer}
+use Rattle.mig_model.specs.declared.limits.TheConstants.{MOST_SAVE_BYTES}
 use Rattle.mig_model.specs.Plain as plain
 use Rattle.mig_model.specs.Plain.{Plain, items, entries, trees_of, pairs_of}
 use Rattle.mig_model.specs.Keeps.{Keeps, AllKeep, AllPairsKeep}
+use Rattle.mig_tree.proofs.Places.{trees_back, pairs_back}
 use Rattle.mig_json.specs.Save.{tree_of, trees_in, pairs_in, JsonSave}
 use Rattle.mig_json.specs.Kinds.{IsJson, AreJson, ArePairsJson}
 use Rattle.mig_json.specs.Writing.{data_of, items_of, members_of}
@@ -18,19 +20,11 @@ whole_again : (z : ℤ) → FitsSigned w64 z → as_i64 (of_integer z) ≡ Some 
 whole_again (pos n) h = let small : nat_lt n (2 ^ 63) ≡ true = lt-ltb n (2 ^ 63) h.sfits in rw small refl
 whole_again (negsuc n) h = refl
 
-trees_again : (ts : plain.Trees) → trees_of (items ts) ≡ ts
-trees_again plain.no_tree = refl
-trees_again (plain.tree t ts) = ap (plain.tree t) (trees_again ts)
-
-pairs_again : (ps : plain.Pairs) → pairs_of (entries ps) ≡ ps
-pairs_again plain.no_pair = refl
-pairs_again (plain.pair k t ps) = ap (plain.pair k t) (pairs_again ps)
-
 mutual
   pub tree_again : (t : Plain) → IsJson t → Keeps t → tree_of (data_of t) ≡ Some t
   tree_again (plain.text s) j h = refl
-  tree_again (plain.list ts) j h = ap (option_map (λ xs. plain.list (trees_of xs))) (items_again ts j h.1) ∙ ap (λ (xs : plain.Trees). Some (plain.list xs)) (trees_again ts)
-  tree_again (plain.map ps) j h = ap (option_map (λ xs. plain.map (pairs_of xs))) (members_again ps j h.2) ∙ ap (λ (xs : plain.Pairs). Some (plain.map xs)) (pairs_again ps)
+  tree_again (plain.list ts) j h = ap (option_map (λ xs. plain.list (trees_of xs))) (items_again ts j h.1) ∙ ap (λ (xs : plain.Trees). Some (plain.list xs)) (trees_back ts)
+  tree_again (plain.map ps) j h = ap (option_map (λ xs. plain.map (pairs_of xs))) (members_again ps j h.2) ∙ ap (λ (xs : plain.Pairs). Some (plain.map xs)) (pairs_back ps)
   tree_again plain.null j h = refl
   tree_again (plain.boolean b) j h = refl
   tree_again (plain.whole z) j h = ap (option_map plain.whole) (whole_again z h)
@@ -44,6 +38,6 @@ mutual
   members_again plain.no_pair j h = refl
   members_again (plain.pair k t ps) j h = rw (tree_again t j.1 h.1, members_again ps j.2 h.2) refl
 
-pub save_again : (t : Plain) (b : List ℕ) → IsMap t → IsJson t → Keeps t → IsUtf8 b → read b ≡ Some (data_of t) → length b ≤ 16777216 → JsonSave b t
+pub save_again : (t : Plain) (b : List ℕ) → IsMap t → IsJson t → Keeps t → IsUtf8 b → read b ≡ Some (data_of t) → length b ≤ MOST_SAVE_BYTES → JsonSave b t
 save_again (plain.map ps) b m j h u r l = (members_of ps, u, r, tree_again (plain.map ps) j h, l)
 save_again _ b m j h u r l = absurd m

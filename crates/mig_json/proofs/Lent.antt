@@ -3,14 +3,14 @@ use Rattle.std.proofs.Common.{◌≡◌, ℕ, ◌+◌, ◌<◌, length, drop, ge
 use Rattle.std.specs.List.{AllByRecursion}
 use Rattle.std.specs.List.Sorted.{IsStrictlySortedBy}
 use Rattle.std.specs.Map.{keys_of}
-use Rattle.std.proofs.lemmas.List.{drop_more}
 use Rattle.serde_json.specs.declared.value.Value.{Value}
 use Rattle.serde_json.specs.View.{view, items_view, members_view}
 use Rattle.serde_json.proofs.Views.{Entry}
 use Rattle.mig_model.specs.Plain.{Plain}
-use Rattle.mig_model.specs.Names.{by_bytes, IsNamed}
+use Rattle.mig_model.specs.Names.{by_bytes, Ascends}
 use Rattle.std.specs.Prelude.{IsUtf8}
 use Rattle.mig_model.specs.Plain.{trees_of, pairs_of}
+use Rattle.mig_tree.proofs.Places.{drop_here}
 use Rattle.mig_json.specs.Save.{tree_of, trees_in, pairs_in}
 use Rattle.mig_json.specs.Kinds.{IsJson, AreJson, ArePairsJson}
 use Rattle.mig_model.specs.Keeps.{IsShort, Keeps, AllPairsKeep}
@@ -68,12 +68,12 @@ above k (e ∷ es) ps h all =
     subst (λ (xs : List Pair). AllByRecursion (λ y. by_bytes k y ≡ Less) (keys_of xs)) (sym s.all_are) (all.0, above k es s.others s.others_are all.1)
 
 -- an object's names ascend by bytes
-pub pairs_named : (es : List Entry) (ps : List Pair) → pairs_in (members_view es) ≡ Some ps → IsStrictlySortedBy string_cmp (keys_of es) → IsNamed ps
+pub pairs_named : (es : List Entry) (ps : List Pair) → pairs_in (members_view es) ≡ Some ps → IsStrictlySortedBy string_cmp (keys_of es) → Ascends ps
 unfolding IsStrictlySortedBy
-pairs_named [] ps h sorted = subst (λ (xs : List Pair). IsNamed xs) (same_Some [] ps h) tt
+pairs_named [] ps h sorted = subst (λ (xs : List Pair). Ascends xs) (same_Some [] ps h) tt
 pairs_named (e ∷ es) ps h sorted =
     let s = split (string_bytes e.0) (tree_of (view e.1)) (pairs_in (members_view es)) ps h in
-    subst (λ (xs : List Pair). IsNamed xs) (sym s.all_are) (above (string_bytes e.0) es s.others s.others_are sorted.0, pairs_named es s.others s.others_are sorted.1)
+    subst (λ (xs : List Pair). Ascends xs) (sym s.all_are) (above (string_bytes e.0) es s.others s.others_are sorted.0, pairs_named es s.others s.others_are sorted.1)
 
 pub json_push : (ts : List Plain) (t : Plain) → AreJson (trees_of ts) → IsJson t → AreJson (trees_of (ts ++ t ∷ []))
 json_push [] t h p = (p, tt)
@@ -94,6 +94,6 @@ item_before front t o None e = rw e refl
 pub items_ahead : (front : List Plain) (vs : List Value) (i : ℕ) (v : Value) (t : Plain) (total : Option (List Plain)) → i < length vs → v ≡ get_or vs i v → tree_of (view v) ≡ Some t
     → ahead front (trees_in (items_view (drop i vs))) ≡ total → ahead (front ++ t ∷ []) (trees_in (items_view (drop (i + 1) vs))) ≡ total
 items_ahead front vs i v t total l is e h =
-    let parted : drop i vs ≡ v ∷ drop (i + 1) vs = drop_more vs i v l ∙ ap (λ (x : Value). x ∷ drop (i + 1) vs) (sym is) in
+    let parted : drop i vs ≡ v ∷ drop (i + 1) vs = drop_here vs i v l is in
     let one = item_before front t (tree_of (view v)) (trees_in (items_view (drop (i + 1) vs))) e in
     sym one ∙ sym (ap (λ (ws : List Value). ahead front (trees_in (items_view ws))) parted) ∙ h

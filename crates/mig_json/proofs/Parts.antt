@@ -1,5 +1,5 @@
 -- What the writing of a list and of a map needs of their parts.
-use Rattle.std.proofs.Common.{◌≡◌, ℕ, zero, suc, ◌<◌, ◌≤◌, ◌+◌, List, [], ◌∷◌, ◌++◌, length, map, get_or, drop, refl, sym, ap, subst, ◌∙◌, arith, Less, Greater, nat_cmp}
+use Rattle.std.proofs.Common.{◌≡◌, ℕ, ◌<◌, ◌+◌, List, [], ◌∷◌, ◌++◌, length, map, get_or, drop, refl, ap, subst, ◌∙◌, Less, Greater, nat_cmp}
 use Rattle.std.proofs.lemmas.Cmp.{nat_list_cmp_total}
 use Rattle.std.proofs.lemmas.List.{drop_more}
 use Rattle.std.specs.Cmp.Lexicographic.{slice_cmp}
@@ -9,9 +9,10 @@ use Rattle.std.specs.List.Sorted.{IsStrictlySortedBy}
 use Rattle.std.specs.Map.{keys_of}
 use Rattle.serde_json.specs.Data as json
 use Rattle.serde_json.specs.Data.{Data, put}
-use Rattle.mig_model.specs.Plain.{Plain, trees_of, pairs_of, size, items_size, entries_size}
+use Rattle.mig_model.specs.Plain.{Plain, trees_of, pairs_of}
 use Rattle.mig_tree.specs.View.{plain_of, entry_of}
-use Rattle.mig_model.specs.Names.{by_bytes, IsNamed}
+use Rattle.mig_tree.proofs.Places.{drop_here}
+use Rattle.mig_model.specs.Names.{by_bytes, Ascends}
 use Rattle.mig_tree.specs.declared.tree.Tree.{Tree}
 use Rattle.mig_tree.specs.declared.entries.Entry.{Entry}
 use Rattle.mig_json.specs.Kinds.{IsJson, AreJson, ArePairsJson}
@@ -20,25 +21,11 @@ use Rattle.mig_json.specs.Writing.{data_of, members_of}
 abbrev Pair : Type 0
 Pair = List ℕ × Plain
 
-pub item_smaller : (xs : List Tree) (i : ℕ) (x : Tree) → i < length xs → x ≡ get_or xs i x → size (plain_of x) ≤ items_size (map plain_of xs)
-item_smaller [] i x l e = absurd (omega arith)
-item_smaller (y ∷ ys) zero x l e = omega (arith, ap (λ (z : Tree). size (plain_of z)) e)
-item_smaller (y ∷ ys) (suc i) x l e = omega (arith, item_smaller ys i x (omega arith) e)
-
 pub item_json : (xs : List Tree) (i : ℕ) (x : Tree) → i < length xs → x ≡ get_or xs i x → AreJson (trees_of (map plain_of (drop i xs))) → IsJson (plain_of x)
-item_json [] i x l e p = absurd (omega arith)
-item_json (y ∷ ys) zero x l e p = subst (λ (z : Tree). IsJson (plain_of z)) (sym e) p.0
-item_json (y ∷ ys) (suc i) x l e p = item_json ys i x (omega arith) e p
-
-pub entry_smaller : (xs : List Entry) (i : ℕ) (x : Entry) → i < length xs → x ≡ get_or xs i x → size (plain_of x.tree) ≤ entries_size (map entry_of xs)
-entry_smaller [] i x l e = absurd (omega arith)
-entry_smaller (y ∷ ys) zero x l e = omega (arith, ap (λ (z : Entry). size (plain_of z.tree)) e)
-entry_smaller (y ∷ ys) (suc i) x l e = omega (arith, entry_smaller ys i x (omega arith) e)
+item_json xs i x l e p = (subst (λ (ys : List Tree). AreJson (trees_of (map plain_of ys))) (drop_here xs i x l e) p).0
 
 pub entry_json : (xs : List Entry) (i : ℕ) (x : Entry) → i < length xs → x ≡ get_or xs i x → ArePairsJson (pairs_of (map entry_of (drop i xs))) → IsJson (plain_of x.tree)
-entry_json [] i x l e p = absurd (omega arith)
-entry_json (y ∷ ys) zero x l e p = subst (λ (z : Entry). IsJson (plain_of z.tree)) (sym e) p.1
-entry_json (y ∷ ys) (suc i) x l e p = entry_json ys i x (omega arith) e p
+entry_json xs i x l e p = (subst (λ (ys : List Entry). ArePairsJson (pairs_of (map entry_of ys))) (drop_here xs i x l e) p).1
 
 pub entries_json : (xs : List Entry) (i : ℕ) (x : Entry) → i < length xs → ArePairsJson (pairs_of (map entry_of (drop i xs))) → ArePairsJson (pairs_of (map entry_of (drop (i + 1) xs)))
 entries_json xs i x l p =
@@ -50,7 +37,7 @@ below first [] p more h = h.0
 below first (x ∷ ps) p more h = below first ps p more h.1
 
 -- a name that is above those before it goes last
-pub put_last : (done : List Pair) (p : Pair) (more : List Pair) → IsNamed (done ++ p ∷ more)
+pub put_last : (done : List Pair) (p : Pair) (more : List Pair) → Ascends (done ++ p ∷ more)
     → put p.0 (data_of p.1) (members_of (pairs_of done)) ≡ members_of (pairs_of (done ++ p ∷ []))
 unfolding IsStrictlySortedBy
 put_last [] p more h = refl

@@ -13,8 +13,9 @@ use Rattle.serde_json.specs.Written.{outline, items_outline, members_outline, nu
 use Rattle.serde_json.proofs.Numbers.{number_of-decimal, number_of-negative}
 use Rattle.mig_model.specs.Plain as plain
 use Rattle.mig_model.specs.Plain.{Plain, entries, pairs_of}
-use Rattle.mig_model.specs.Names.{IsNamed}
+use Rattle.mig_model.specs.Names.{Ascends}
 use Rattle.mig_model.specs.Keeps.{Keeps, AllKeep, AllPairsKeep}
+use Rattle.mig_tree.proofs.Places.{pairs_back}
 use Rattle.mig_json.specs.Writing.{data_of, items_of, members_of}
 use Rattle.mig_json.proofs.Parts.{put_last}
 use Rattle.std.specs.Prelude.{FitsSigned}
@@ -27,10 +28,7 @@ mutual
   outline_depth : (d : Data) → tree.depth (outline d) ≤ depth d
   outline_depth (value.array ds) = omega (arith, outline_items ds)
   outline_depth (value.object ms) = omega (arith, outline_members ms)
-  outline_depth value.null = omega arith
-  outline_depth (value.boolean b) = omega arith
-  outline_depth (value.number n) = omega arith
-  outline_depth (value.string s) = omega arith
+  outline_depth _ = omega arith
 
   outline_items : (ds : value.Items) → tree.items_depth (items_outline ds) ≤ items_depth ds
   outline_items value.no_items = omega arith
@@ -50,34 +48,19 @@ item_read o js d ds e f = rw (e, f) refl
 member_read : (o : Option Data) (d : Data) (k : List ℕ) (ms : json.Members) (found : Members) → o ≡ Some d → option_and_then (λ x. of_members ms (put k x found)) o ≡ of_members ms (put k d found)
 member_read o d k ms found e = rw e refl
 
-pairs_again : (ps : plain.Pairs) → pairs_of (entries ps) ≡ ps
-pairs_again plain.no_pair = refl
-pairs_again (plain.pair k t ps) = ap (plain.pair k t) (pairs_again ps)
-
 mutual
   pub tree_read : (t : Plain) → Keeps t → of_json (outline (data_of t)) ≡ Some (data_of t)
   tree_read (plain.whole z) h = ap (option_map value.number) (whole_read z h)
   tree_read (plain.list ts) h = ap (option_map value.array) (items_read ts h.1)
   tree_read (plain.map ps) h =
-      ap (option_map value.object) (members_read [] ps h.0 h.2 ∙ ap (λ (qs : plain.Pairs). Some (members_of qs)) (pairs_again ps))
-  tree_read (plain.text s) h = refl
-  tree_read (plain.boolean b) h = refl
-  tree_read plain.null h = refl
-  tree_read (plain.byte z) h = refl
-  tree_read (plain.short z) h = refl
-  tree_read (plain.int z) h = refl
-  tree_read (plain.long z) h = refl
-  tree_read (plain.float n) h = refl
-  tree_read (plain.double n) h = refl
-  tree_read (plain.bytes b) h = refl
-  tree_read (plain.ints b) h = refl
-  tree_read (plain.longs b) h = refl
+      ap (option_map value.object) (members_read [] ps h.0 h.2 ∙ ap (λ (qs : plain.Pairs). Some (members_of qs)) (pairs_back ps))
+  tree_read _ h = refl
 
   items_read : (ts : plain.Trees) → AllKeep ts → of_items (items_outline (items_of ts)) ≡ Some (items_of ts)
   items_read plain.no_tree h = refl
   items_read (plain.tree t ts) h = item_read (of_json (outline (data_of t))) (of_items (items_outline (items_of ts))) (data_of t) (items_of ts) (tree_read t h.0) (items_read ts h.1)
 
-  members_read : (done : List Pair) (ps : plain.Pairs) → IsNamed (done ++ entries ps) → AllPairsKeep ps
+  members_read : (done : List Pair) (ps : plain.Pairs) → Ascends (done ++ entries ps) → AllPairsKeep ps
       → of_members (members_outline (members_of ps)) (members_of (pairs_of done)) ≡ Some (members_of (pairs_of (done ++ entries ps)))
   members_read done plain.no_pair named h = ap (λ (qs : List Pair). Some (members_of (pairs_of qs))) (sym (append-nil done))
   members_read done (plain.pair k t ps) named h =
@@ -85,7 +68,7 @@ mutual
       let here = member_read (of_json (outline (data_of t))) (data_of t) k ms (members_of (pairs_of done)) (tree_read t h.1) in
       let last = put_last done (k, t) (entries ps) named in
       let apart : (done ++ (k, t) ∷ []) ++ entries ps ≡ done ++ (k, t) ∷ entries ps = append_assoc done ((k, t) ∷ []) (entries ps) in
-      let later = members_read (done ++ (k, t) ∷ []) ps (subst (λ (qs : List Pair). IsNamed qs) (sym apart) named) h.2 in
+      let later = members_read (done ++ (k, t) ∷ []) ps (subst (λ (qs : List Pair). Ascends qs) (sym apart) named) h.2 in
       here ∙ ap (of_members ms) last ∙ later ∙ ap (λ (qs : List Pair). Some (members_of (pairs_of qs))) apart
 
 -- whatever text has the tokens of the value

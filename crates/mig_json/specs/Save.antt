@@ -4,6 +4,7 @@ use Rattle.serde_json.specs.Data as json
 use Rattle.serde_json.specs.Data.{Data}
 use Rattle.serde_json.specs.Read.{read}
 use Rattle.serde_json.specs.Find.{as_i64}
+use Rattle.mig_model.specs.declared.limits.TheConstants.{MOST_SAVE_BYTES}
 use Rattle.mig_model.specs.Plain as plain
 use Rattle.mig_model.specs.Plain.{Plain, trees_of, pairs_of}
 
@@ -27,4 +28,4 @@ abbrev mutual
 
 -- the bytes are a JSON save of the tree: they read as an object with that tree, and are few enough
 abbrev pub JsonSave : List ℕ → Plain → Type 0
-JsonSave b t = (ms : json.Members) × IsUtf8 b × (read b ≡ Some (json.object ms)) × (tree_of (json.object ms) ≡ Some t) × (length b ≤ 16777216)
+JsonSave b t = (ms : json.Members) × IsUtf8 b × (read b ≡ Some (json.object ms)) × (tree_of (json.object ms) ≡ Some t) × (length b ≤ MOST_SAVE_BYTES)

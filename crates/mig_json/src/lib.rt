@@ -12,6 +12,3 @@ pub use error::JsonError;
 pub use law::decoding;
 pub use reading::{Document, parse};
 pub use writing::write;
-
-#[cfg(test)]
-mod tests;

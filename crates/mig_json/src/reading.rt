@@ -9,6 +9,7 @@ ghost use Rattle.mig_json.specs.Kinds.{IsJson};
 use crate::JsonError;
 use crate::fitting::fits;
 use crate::lending::lend;
+use mig_model::MOST_SAVE_BYTES;
 use mig_tree::{Memory, Tree};
 use serde_json::Value;
 use std::alloc::Global;
@@ -46,7 +47,7 @@ pub fn parse(alloc: Global, bytes: &[u8]) -> Result<Document, JsonError>
     // A text is of one tree alone.
     ensures only { IfOk result (λ d. (t : Plain) → JsonSave bytes.now t → t ≡ d) }
 {
-    if bytes.len() > 16_777_216 {
+    if bytes.len() > MOST_SAVE_BYTES {
         return Err(JsonError::Wrong);
     }
     let value = match Value::from_slice(alloc, bytes) {

@@ -4,6 +4,7 @@ ghost use Rattle.json.specs.Tree.{json_tokens, items_tokens, members_tokens};
 ghost use Rattle.serde_json.specs.Data.{depth};
 ghost use Rattle.serde_json.specs.Read.{max_depth};
 ghost use Rattle.serde_json.specs.Written.{outline, items_outline, members_outline};
+ghost use Rattle.mig_model.specs.declared.limits.TheConstants.{MOST_SAVE_BYTES};
 ghost use Rattle.mig_model.specs.Plain.{trees_of, pairs_of};
 ghost use Rattle.mig_model.specs.Kinds.{IsMap};
 ghost use Rattle.mig_tree.specs.View.{plain_of, entry_of};
@@ -76,7 +77,7 @@ pub fn write(alloc: Global, tree: &Tree) -> Result<Vec<u8>, Memory>
     requires json { IsJson (plain_of tree.now) }
     ensures text { IfOk result (λ out. out.items ≡ json_text (plain_of tree.now)) }
     ensures reads_back { IfOk result (λ out. depth (data_of (plain_of tree.now)) ≤ max_depth
-        → length out.items ≤ 16777216 → JsonSave out.items (plain_of tree.now)) }
+        → length out.items ≤ MOST_SAVE_BYTES → JsonSave out.items (plain_of tree.now)) }
 {
     tree.keeps();
     let mut out = Writer::new(Vec::with_capacity(alloc, 128)?);

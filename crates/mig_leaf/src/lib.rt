@@ -8,6 +8,3 @@ mod text;
 
 pub use constant::Const;
 pub use leaf_fn::LeafFn;
-
-#[cfg(test)]
-mod tests;

@@ -51,9 +51,6 @@ whole_joined : (ps : List (List ℕ)) (p : List ℕ) → flat_map ended (ps ++ p
 whole_joined [] p = append-nil (ended p)
 whole_joined (q ∷ ps) p = ap (λ (l : List ℕ). ended q ++ l) (whole_joined ps p) ∙ sym (append_assoc (ended q) (flat_map ended ps) (ended p))
 
-pub cut_nothing : Cuts [] [] []
-cut_nothing = record { whole = refl; each = tt; last = tt }
-
 pub cut_more : (front : List ℕ) (ps : List (List ℕ)) (rest : List ℕ) (c : ℕ) → Cuts front ps rest → c ≢ 59 → Cuts (front ++ c ∷ []) ps (rest ++ c ∷ [])
 cut_more front ps rest c x never = record {
   whole = ap (λ (l : List ℕ). l ++ c ∷ []) x.whole ∙ append_assoc (flat_map ended ps) rest (c ∷ []);

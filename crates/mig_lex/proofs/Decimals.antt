@@ -5,10 +5,12 @@ use Rattle.std.specs.Fmt.{decimal, signed_decimal}
 use Rattle.std.specs.List.{AllByRecursion}
 use Rattle.std.specs.Str.Parse.{AllDigits, IsNumeral, digits_value, digits_value_after}
 use Rattle.std.proofs.lemmas.Fmt.{decimal_is_IsNumeral_wide, decimal_by_steps_wide, decimal_step_wide, decimal_digit, length-decimal-le_wide}
-use Rattle.std.proofs.lemmas.List.{get_or_append_left, take_more}
+use Rattle.std.proofs.lemmas.List.{get_or_append_left}
 use Rattle.std.proofs.lemmas.Str.{digit_value_digit}
 use Rattle.std.proofs.lemmas.Str.Parse.{digit_from_value}
+use Rattle.std.proofs.lemmas.Int.Digits.{digits_value_more}
 use Rattle.mig_lex.specs.Reading.{IsDigit}
+use Rattle.mig_lex.proofs.Lists.{all_at}
 
 -- ---- what decimals are
 digits_of_all : (ds : List ℕ) → AllDigits 10 ds → AllByRecursion IsDigit ds
@@ -36,12 +38,8 @@ module _ (n : ℕ) (small : n < 10 ^ 20) where
       (decimal_by_steps_wide (λ m ds. (0 < length ds) × (0 < m → 48 < get_or ds 0 0)) (λ m l. (omega arith, λ a. omega arith))
       (λ m ds l h. (omega (arith, length-append ds ((48 + m % 10) ∷ [])), λ a. omega (arith, get_or_append_left ds ((48 + m % 10) ∷ []) 0 0 h.0, h.1 (omega arith)))) n (omega arith)).1 some
 
-first_digit : (ds : List ℕ) → 0 < length ds → AllByRecursion IsDigit ds → IsDigit (get_or ds 0 0)
-first_digit [] h d = absurd (omega arith)
-first_digit (c ∷ cs) h d = d.0
-
 pub decimal_first : (n : ℕ) → n < 10 ^ 20 → IsDigit (get_or (decimal n) 0 0)
-decimal_first n small = first_digit (decimal n) (decimal_some n small) (decimal_digits n small)
+decimal_first n small = all_at IsDigit (decimal n) (decimal_digits n small) 0 (decimal_some n small)
 
 pub signed_first : (z : ℤ) → nat_abs z < 10 ^ 20 → IsDigit (get_or (signed_decimal z) 0 0) ⊎ (get_or (signed_decimal z) 0 0 ≡ 45)
 signed_first (pos n) small = inl (decimal_first n small)
@@ -88,14 +86,8 @@ all_digits [] d = tt
 all_digits (c ∷ cs) d = (omega (arith, digit_value_digit c d.0, d.0), all_digits cs d.1)
 
 -- one digit more
-pub value_more : (n : ℕ) (ds : List ℕ) (c : ℕ) → IsDigit c → digits_value_after 10 n (ds ++ c ∷ []) ≡ digits_value_after 10 n ds * 10 + (c - 48)
-value_more n [] c d = omega (arith, digit_value_digit c d)
-value_more n (x ∷ ds) c d = value_more (n * 10 + digit_value x) ds c d
-
 pub value_step : (digits : List ℕ) (i v d : ℕ) → i < length digits → IsDigit (get_or digits i 0) → v ≡ digits_value 10 (take i digits) → d ≡ get_or digits i 0 - 48 → v * 10 + d ≡ digits_value 10 (take (i + 1) digits)
-value_step digits i v d lt digit so_far is =
-    let e : digits_value 10 (take (i + 1) digits) ≡ digits_value 10 (take i digits ++ get_or digits i 0 ∷ []) = ap (digits_value 10) (take_more digits i 0 lt) in
-    omega (arith, value_more 0 (take i digits) (get_or digits i 0) digit)
+value_step digits i v d lt digit so_far is = omega (arith, digits_value_more 10 digits i lt, digit_value_digit (get_or digits i 0) digit)
 
 pub small_step : (v d i : ℕ) → v < 10 ^ i → d < 10 → v * 10 + d < 10 ^ (i + 1)
 small_step v d i h l =

@@ -12,6 +12,7 @@ use Rattle.mig_token.proofs.Marks.{one_mark}
 use Rattle.mig_token.specs.Token.{Tok, mark, name, number, text}
 use Rattle.mig_token.specs.Lexical.{IsWhite, IsLetter, IsWordByte, IsWord, IsStringChar, IsToken, a_mark, a_name, a_number, a_string}
 use Rattle.mig_lex.specs.Reading.{IsDigit}
+use Rattle.mig_lex.proofs.Lists.{some_byte}
 use Rattle.mig_lex.proofs.Decimals.{signed_first, signed_injective}
 
 abbrev pub first : List ℕ → ℕ
@@ -91,7 +92,7 @@ pub record IsOther (c : ℕ) : Type 0 where
   pub letter : IsLetter c → ⊥
   pub number : IsNumberByte c → ⊥
   pub quotation : c ≢ 34
-  pub white : IsWhite c → ⊥
+  pub above : 32 < c
 
 sign_byte_other : (c : ℕ) → IsSignByte c → IsOther c
 sign_byte_other c s =
@@ -103,7 +104,7 @@ sign_byte_other c s =
       letter = λ l. omega (arith, l, alpha);
       number = λ n. elim n [ inl d ↦ omega (arith, d, digit) | inr e ↦ minus e ];
       quotation = λ e. omega arith;
-      white = λ w. elim w [ inl e ↦ omega arith | inr v ↦ elim v [ inl e ↦ omega arith | inr u ↦ elim u [ inl e ↦ omega arith | inr e ↦ omega arith ] ] ];
+      above = omega arith;
     }
 
 pub sign_first : (b : List ℕ) → IsSign b → IsOther (first b)
@@ -112,7 +113,7 @@ sign_first b (inr e) = subst (λ (l : List ℕ). IsOther (first l)) (sym e) (rec
   letter = λ l. omega (arith, l);
   number = λ n. elim n [ inl d ↦ omega (arith, d) | inr z ↦ omega (arith, z) ];
   quotation = λ z. omega (arith, z);
-  white = λ w. elim w [ inl z ↦ omega (arith, z) | inr v ↦ elim v [ inl z ↦ omega (arith, z) | inr u ↦ elim u [ inl z ↦ omega (arith, z) | inr z ↦ omega (arith, z) ] ] ];
+  above = omega arith;
 })
 
 -- what stands between the quotation marks
@@ -147,30 +148,26 @@ first_quoted b s e = ap first e
 first_number : (b : List ℕ) (z : ℤ) → nat_abs z < 10 ^ 20 → b ≡ signed_decimal z → IsNumberByte (first b)
 first_number b z small e = subst (λ (l : List ℕ). IsNumberByte (first l)) (sym e) (signed_first z small)
 
-no_letter_number : (c : ℕ) → IsLetter c → IsNumberByte c → ⊥
-no_letter_number c l (inl d) = omega (arith, l, d)
-no_letter_number c l (inr e) = omega (arith, l, e)
-
-no_quotation_number : (c : ℕ) → c ≡ 34 → IsNumberByte c → ⊥
-no_quotation_number c q (inl d) = omega (arith, q, d)
-no_quotation_number c q (inr e) = omega (arith, q, e)
+number_byte : (c : ℕ) → IsNumberByte c → (44 < c) × (c < 58)
+number_byte c (inl d) = (omega (arith, d), omega (arith, d))
+number_byte c (inr e) = (omega arith, omega arith)
 
 pub letter_form : {b : List ℕ} {t : Tok} → Form b t → IsLetter (first b) → IsWord b
 letter_form (a_word b t w) l = w
-letter_form (a_decimal b z small e) l = absurd (no_letter_number (first b) l (first_number b z small e))
+letter_form (a_decimal b z small e) l = absurd (omega (arith, l, number_byte (first b) (first_number b z small e)))
 letter_form (a_quoted b s e ok) l = absurd (omega (arith, l, first_quoted b s e))
 letter_form (a_sign b m is s) l = absurd ((sign_first b s).letter l)
 
-pub number_form : {b : List ℕ} {t : Tok} → Form b t → IsNumberByte (first b) → (z : ℤ) × (nat_abs z < 10 ^ 20) × (b ≡ signed_decimal z)
-number_form (a_word b t w) n = absurd (no_letter_number (first b) (word_first b w) n)
-number_form (a_decimal b z small e) n = (z, small, e)
-number_form (a_quoted b s e ok) n = absurd (no_quotation_number (first b) (first_quoted b s e) n)
+pub number_form : {b : List ℕ} {t : Tok} → Form b t → IsNumberByte (first b) → (z : ℤ) × (nat_abs z < 10 ^ 20) × (b ≡ signed_decimal z) × (t ≡ number z)
+number_form (a_word b t w) n = absurd (omega (arith, word_first b w, number_byte (first b) n))
+number_form (a_decimal b z small e) n = (z, small, e, refl)
+number_form (a_quoted b s e ok) n = absurd (omega (arith, first_quoted b s e, number_byte (first b) n))
 number_form (a_sign b m is s) n = absurd ((sign_first b s).number n)
 
-pub quoted_form : {b : List ℕ} {t : Tok} → Form b t → first b ≡ 34 → (s : List ℕ) × (b ≡ quoted s) × IsText s
+pub quoted_form : {b : List ℕ} {t : Tok} → Form b t → first b ≡ 34 → (s : List ℕ) × (b ≡ quoted s) × IsText s × (t ≡ text s)
 quoted_form (a_word b t w) q = absurd (omega (arith, q, word_first b w))
-quoted_form (a_decimal b z small e) q = absurd (no_quotation_number (first b) q (first_number b z small e))
-quoted_form (a_quoted b s e ok) q = (s, e, ok)
+quoted_form (a_decimal b z small e) q = absurd (omega (arith, q, number_byte (first b) (first_number b z small e)))
+quoted_form (a_quoted b s e ok) q = (s, e, ok, refl)
 quoted_form (a_sign b m is s) q = absurd ((sign_first b s).quotation q)
 
 pub other_form : {b : List ℕ} {t : Tok} → Form b t → (IsLetter (first b) → ⊥) → (IsNumberByte (first b) → ⊥) → first b ≢ 34 → (m : Mark) × (b ≡ spelling m) × IsSign b
@@ -180,86 +177,47 @@ other_form (a_quoted b s e ok) l n q = absurd (q (first_quoted b s e))
 other_form (a_sign b m is s) l n q = (m, is, s)
 
 -- ---- a token has a byte, and its first is no white space
-number_white : (c : ℕ) → IsNumberByte c → IsWhite c → ⊥
-number_white c (inl d) w = elim w [ inl e ↦ omega (arith, d) | inr v ↦ elim v [ inl e ↦ omega (arith, d) | inr u ↦ elim u [ inl e ↦ omega (arith, d) | inr e ↦ omega (arith, d) ] ] ]
-number_white c (inr m) w = elim w [ inl e ↦ omega (arith, m) | inr v ↦ elim v [ inl e ↦ omega (arith, m) | inr u ↦ elim u [ inl e ↦ omega (arith, m) | inr e ↦ omega (arith, m) ] ] ]
-
 white_small : (c : ℕ) → IsWhite c → c < 33
 white_small c (inl e) = omega arith
 white_small c (inr (inl e)) = omega arith
 white_small c (inr (inr (inl e))) = omega arith
 white_small c (inr (inr (inr e))) = omega arith
 
-form_white : {b : List ℕ} {t : Tok} → Form b t → IsWhite (first b) → ⊥
-form_white (a_word b t w) h = omega (arith, white_small (first b) h, word_first b w)
-form_white (a_decimal b z small e) h = number_white (first b) (first_number b z small e) h
-form_white (a_quoted b s e ok) h = omega (arith, white_small (first b) h, first_quoted b s e)
-form_white (a_sign b m is s) h = (sign_first b s).white h
+form_above : {b : List ℕ} {t : Tok} → Form b t → 32 < first b
+form_above (a_word b t w) = omega (arith, word_first b w)
+form_above (a_decimal b z small e) = omega (arith, number_byte (first b) (first_number b z small e))
+form_above (a_quoted b s e ok) = omega (arith, first_quoted b s e)
+form_above (a_sign b m is s) = (sign_first b s).above
 
 pub first_not_white : {b : List ℕ} {t : Tok} → IsToken b t → IsWhite (first b) → ⊥
-first_not_white x = form_white (form_of x)
-
-no_byte : (c : ℕ) (cs : List ℕ) → [] ≡ c ∷ cs → ⊥
-no_byte c cs e = cc
-
-form_some : {b : List ℕ} {t : Tok} → Form b t → (b ≡ []) → ⊥
-form_some (a_word b t w) e = let l = word_first b w in let z : first b ≡ 0 = ap first e in omega (arith, l)
-form_some (a_decimal b z small is) e = let n = first_number b z small is in let c : first b ≡ 0 = ap first e in elim n [ inl d ↦ omega (arith, d) | inr m ↦ omega (arith, m) ]
-form_some (a_quoted b s is ok) e = let q = first_quoted b s is in let c : first b ≡ 0 = ap first e in omega (arith, q)
-form_some (a_sign b m is (inl s)) e = no_byte s.0 [] (sym e ∙ s.1)
-form_some (a_sign b m is (inr s)) e = no_byte 46 (46 ∷ []) (sym e ∙ s)
+first_not_white {b = b} x w = omega (arith, white_small (first b) w, form_above (form_of x))
 
 pub has_byte : {b : List ℕ} {t : Tok} → IsToken b t → 0 < length b
-has_byte {b = b} x = some b (form_some (form_of x))
-  where
-    some : (l : List ℕ) → (l ≡ [] → ⊥) → 0 < length l
-    some [] h = absurd (h refl)
-    some (c ∷ cs) h = omega arith
+has_byte {b = b} x = some_byte b (omega (arith, form_above (form_of x)))
 
 -- ---- a token's bytes have one token
-mark_number : (m : Mark) (z : ℤ) → nat_abs z < 10 ^ 20 → spelling m ≡ signed_decimal z → ⊥
-mark_number m z small e = by (word_or_sign m)
-  where
-    by : IsWord (spelling m) ⊎ IsSign (spelling m) → ⊥
-    by (inl w) = no_letter_number (first (spelling m)) (word_first (spelling m) w) (first_number (spelling m) z small e)
-    by (inr s) = (sign_first (spelling m) s).number (first_number (spelling m) z small e)
-
-mark_quoted : (m : Mark) (s : List ℕ) → spelling m ≡ quoted s → ⊥
-mark_quoted m s e = by (word_or_sign m)
-  where
-    by : IsWord (spelling m) ⊎ IsSign (spelling m) → ⊥
-    by (inl w) = omega (arith, word_first (spelling m) w, first_quoted (spelling m) s e)
-    by (inr g) = (sign_first (spelling m) g).quotation (first_quoted (spelling m) s e)
-
-word_number : (b : List ℕ) (z : ℤ) → nat_abs z < 10 ^ 20 → IsWord b → b ≡ signed_decimal z → ⊥
-word_number b z small w e = no_letter_number (first b) (word_first b w) (first_number b z small e)
-
-word_quoted : (b s : List ℕ) → IsWord b → b ≡ quoted s → ⊥
-word_quoted b s w e = omega (arith, word_first b w, first_quoted b s e)
-
-number_quoted : (z : ℤ) (s : List ℕ) → nat_abs z < 10 ^ 20 → signed_decimal z ≡ quoted s → ⊥
-number_quoted z s small e = no_quotation_number (first (signed_decimal z)) (first_quoted (signed_decimal z) s e) (signed_first z small)
+number_is : {b : List ℕ} {t : Tok} → IsToken b t → (z : ℤ) → nat_abs z < 10 ^ 20 → b ≡ signed_decimal z → t ≡ number z
+number_is {b = b} x z small e =
+    let f = number_form (form_of x) (first_number b z small e) in
+    f.3 ∙ ap number (signed_injective f.0 z f.1 small (sym f.2 ∙ e))
 
 one_text : (s r : List ℕ) → quoted s ≡ quoted r → s ≡ r
 one_text s r e = let t : s ++ 34 ∷ [] ≡ r ++ 34 ∷ [] = cc in append_cancel_right s r (34 ∷ []) t
 
+text_is : {b : List ℕ} {t : Tok} → IsToken b t → (s : List ℕ) → b ≡ quoted s → t ≡ text s
+text_is {b = b} x s e =
+    let f = quoted_form (form_of x) (first_quoted b s e) in
+    f.3 ∙ ap text (one_text f.0 s (sym f.1 ∙ e))
+
 same_bytes : {b c : List ℕ} {t u : Tok} → IsToken b t → IsToken c u → b ≡ c → t ≡ u
 same_bytes (a_mark m) (a_mark n) e = ap mark (one_mark m n e)
 same_bytes (a_mark m) (a_name c w other) e = absurd (other m (sym e))
-same_bytes (a_mark m) (a_number z small) e = absurd (mark_number m z small e)
-same_bytes (a_mark m) (a_string s utf8 each short) e = absurd (mark_quoted m s e)
 same_bytes (a_name b w other) (a_mark n) e = absurd (other n e)
 same_bytes (a_name b w other) (a_name c v also) e = ap name e
-same_bytes (a_name b w other) (a_number z small) e = absurd (word_number b z small w e)
-same_bytes (a_name b w other) (a_string s utf8 each short) e = absurd (word_quoted b s w e)
-same_bytes (a_number z small) (a_mark n) e = absurd (mark_number n z small (sym e))
-same_bytes (a_number z small) (a_name c w other) e = absurd (word_number c z small w (sym e))
-same_bytes (a_number z small) (a_number y little) e = ap number (signed_injective z y small little e)
-same_bytes (a_number z small) (a_string s utf8 each short) e = absurd (number_quoted z s small e)
-same_bytes (a_string s utf8 each short) (a_mark n) e = absurd (mark_quoted n s (sym e))
-same_bytes (a_string s utf8 each short) (a_name c w other) e = absurd (word_quoted c s w (sym e))
-same_bytes (a_string s utf8 each short) (a_number z small) e = absurd (number_quoted z s small (sym e))
-same_bytes (a_string s utf8 each short) (a_string r utf8' each' short') e = ap text (one_text s r e)
+same_bytes (a_number z small) y e = sym (number_is y z small (sym e))
+same_bytes (a_string s utf8 each short) y e = sym (text_is y s (sym e))
+same_bytes x (a_number z small) e = number_is x z small e
+same_bytes x (a_string s utf8 each short) e = text_is x s e
 
 pub one_token : (b c : List ℕ) (t u : Tok) → b ≡ c → IsToken b t → IsToken c u → t ≡ u
 one_token b c t u e x y = same_bytes x y e

@@ -1,5 +1,7 @@
 -- Classes of bytes along a list.
 use Rattle.std.proofs.Common.{◌≡◌, ℕ, zero, suc, ◌+◌, ◌<◌, ◌≤◌, List, [], ◌∷◌, ◌++◌, length, take, drop, get_or, refl, sym, ap, subst, ◌∙◌, length-append, length-take-le, length-drop, take-add, take-append-drop, append-nil, get_or-take, get_or-drop, IsTrue, ◌↔◌, nat_eq, Bool, true, false, true≢false, eqb-true, arith}
+use Rattle.std.proofs.lemmas.List.{take_all}
+use Rattle.std.proofs.lemmas.List.Elements.{All-from_recursion}
 use Rattle.std.specs.List.{AllByRecursion}
 use Rattle.mig_token.specs.Lexical.{IsWhite}
 use Rattle.mig_lex.specs.Reading.{IsRun, SkipsWhite}
@@ -11,9 +13,10 @@ module _ (P : ℕ → Type 0) where
   all_taken (b ∷ bytes) (suc n) h each = (each zero (omega arith), all_taken bytes n (omega arith) (λ k l. each (suc k) (omega arith)))
 
   pub all_at : (xs : List ℕ) → AllByRecursion P xs → (k : ℕ) → k < length xs → P (get_or xs k 0)
-  all_at [] a k h = absurd (omega arith)
-  all_at (x ∷ xs) a zero h = a.0
-  all_at (x ∷ xs) a (suc k) h = all_at xs a.1 k (omega arith)
+  all_at xs a k h = All-from_recursion P xs a k 0 h
+
+  pub from_each : (xs : List ℕ) → ((k : ℕ) → k < length xs → P (get_or xs k 0)) → AllByRecursion P xs
+  from_each xs each = subst (AllByRecursion P) (take_all (length xs) xs (omega arith)) (all_taken xs (length xs) (omega arith) each)
 
   pub all_joined : (xs ys : List ℕ) → AllByRecursion P xs → AllByRecursion P ys → AllByRecursion P (xs ++ ys)
   all_joined [] ys a b = b
@@ -40,6 +43,15 @@ pub first_of_front : (xs ys : List ℕ) → 0 < length xs → get_or (xs ++ ys) 
 first_of_front [] ys h = absurd (omega arith)
 first_of_front (x ∷ xs) ys h = refl
 
+-- ---- a byte at the front
+pub some_byte : (l : List ℕ) → 0 < get_or l 0 0 → 0 < length l
+some_byte [] h = absurd (omega (arith, h))
+some_byte (c ∷ cs) h = omega arith
+
+pub front_parted : (l rest : List ℕ) (c : ℕ) → 1 ≤ length l → get_or l 0 0 ≡ c → rest ≡ drop 1 l → l ≡ c ∷ rest
+front_parted [] rest c h e d = absurd (omega arith)
+front_parted (x ∷ l) rest c h e d = λ i. e i ∷ sym d i
+
 -- ---- white space
 pub skips : (bytes rest : List ℕ) (i : ℕ) → i ≤ length bytes → ((k : ℕ) → k < i → IsWhite (get_or bytes k 0)) → rest ≡ drop i bytes → (i < length bytes → IsWhite (get_or bytes i 0) → ⊥) → SkipsWhite bytes rest
 skips bytes rest i within each is last = record {
@@ -62,7 +74,3 @@ some_left (suc n) b e f = omega arith
 
 pub none_left : (n : ℕ) (b : Bool) → b ≡ nat_eq n 0 → b ≡ true → n ≤ 0
 none_left n b e t = omega (arith, eqb-true n 0 (sym e ∙ t))
-
-pub from_each : (P : ℕ → Type 0) (xs : List ℕ) → ((k : ℕ) → k < length xs → P (get_or xs k 0)) → AllByRecursion P xs
-from_each P [] each = tt
-from_each P (x ∷ xs) each = (each zero (omega arith), from_each P xs (λ k h. each (suc k) (omega arith)))

@@ -6,8 +6,8 @@ use Rattle.std.specs.Str.Parse.{digits_value}
 use Rattle.std.proofs.lemmas.Fmt.{decimal_digit}
 use Rattle.mig_token.specs.Token.{number}
 use Rattle.mig_token.specs.Lexical.{IsToken, a_number}
-use Rattle.mig_lex.specs.Reading.{IsRun, IsDigit, IsLeadingDigit, Reads, ReadsDecimal, HasNoToken}
-use Rattle.mig_lex.proofs.Lists.{all_taken, all_at, first_of_front}
+use Rattle.mig_lex.specs.Reading.{IsRun, IsDigit, IsLeadingDigit, ReadsToken, ReadsDecimal, HasNoToken}
+use Rattle.mig_lex.proofs.Lists.{all_taken, all_at, first_of_front, some_byte, front_parted}
 use Rattle.mig_lex.proofs.Decimals.{decimal_digits, decimal_some, decimal_short, decimal_leads, decimal_first, decimal_again, all_digits}
 use Rattle.mig_lex.proofs.Forms.{first, form_of, number_form, has_byte}
 
@@ -31,11 +31,7 @@ decimal_read bytes digits rest n v run lead p q is small =
     }
   where
     has_digit : (n : ℕ) → IsRun IsDigit 20 bytes n → length digits ≡ n → 0 < length digits
-    has_digit zero run size = absurd (run.last (omega arith) (some bytes lead) (omega (arith, lead.0), lead.1))
-      where
-        some : (l : List ℕ) → IsLeadingDigit (first l) → 0 < length l
-        some [] d = absurd (omega (arith, d))
-        some (c ∷ cs) d = omega arith
+    has_digit zero run size = absurd (run.last (omega arith) (some_byte bytes (omega (arith, lead.0))) (omega (arith, lead.0), lead.1))
     has_digit (suc n) run size = omega arith
 
 -- ---- the longest number
@@ -57,7 +53,7 @@ no_more_digits n m rest k small little last some fits e =
 digit_front : (n : ℕ) (l : List ℕ) → n < 10 ^ 20 → IsDigit (first (decimal n ++ l))
 digit_front n l small = subst IsDigit (sym (first_of_front (decimal n) l (decimal_some n small))) (decimal_first n small)
 
-pub positive_read : (bytes rest : List ℕ) (n : ℕ) → ReadsDecimal bytes n rest → Reads bytes (number (pos n)) rest
+pub positive_read : (bytes rest : List ℕ) (n : ℕ) → ReadsDecimal bytes n rest → ReadsToken bytes (number (pos n)) rest
 positive_read bytes rest n d = record {
   front = decimal n;
   whole = d.whole;
@@ -71,7 +67,7 @@ positive_read bytes rest n d = record {
     by k some fits (pos m) small e = no_more_digits n m rest k d.small small d.last some fits e
     by k some fits (negsuc m) small e = omega (arith, digit_front n (take k rest) d.small, ap first e)
 
-minus_read : (digits rest : List ℕ) (j : ℕ) → ReadsDecimal digits (suc j) rest → Reads (45 ∷ digits) (number (negsuc j)) rest
+minus_read : (digits rest : List ℕ) (j : ℕ) → ReadsDecimal digits (suc j) rest → ReadsToken (45 ∷ digits) (number (negsuc j)) rest
 minus_read digits rest j d = record {
   front = 45 ∷ decimal (suc j);
   whole = ap (λ (l : List ℕ). 45 ∷ l) d.whole;
@@ -85,13 +81,13 @@ minus_read digits rest j d = record {
     by k some fits (pos m) small e = omega (arith, decimal_first m small, ap first e)
     by k some fits (negsuc m) small e = no_more_digits (suc j) (suc m) rest k d.small small d.last some fits (ap (drop 1) e)
 
-pub negative_read : (digits rest : List ℕ) (n : ℕ) → IsLeadingDigit (first digits) → ReadsDecimal digits n rest → Reads (45 ∷ digits) (number (neg_ℤ (pos n))) rest
+pub negative_read : (digits rest : List ℕ) (n : ℕ) → IsLeadingDigit (first digits) → ReadsDecimal digits n rest → ReadsToken (45 ∷ digits) (number (neg_ℤ (pos n))) rest
 negative_read digits rest zero lead d =
     let zeros : first (decimal 0 ++ rest) ≡ 48 = ap (λ (l : List ℕ). first (l ++ rest)) (decimal_digit 0 (omega arith)) in
     absurd (omega (arith, lead, ap first d.whole))
 negative_read digits rest (suc j) lead d = minus_read digits rest j d
 
-pub zero_read : (rest : List ℕ) → Reads (48 ∷ rest) (number (pos 0)) rest
+pub zero_read : (rest : List ℕ) → ReadsToken (48 ∷ rest) (number (pos 0)) rest
 zero_read rest = record {
   front = 48 ∷ [];
   whole = refl;
@@ -124,17 +120,13 @@ no_number digits never (c ∷ cs) rest t e x =
 -- ---- the same of any bytes
 module _ (bytes digits : List ℕ) (some : 1 ≤ length bytes) (behind : digits ≡ drop 1 bytes) where
   parts : (c : ℕ) → first bytes ≡ c → bytes ≡ c ∷ digits
-  parts c is = split bytes some is behind
-    where
-      split : (l : List ℕ) → 1 ≤ length l → first l ≡ c → digits ≡ drop 1 l → l ≡ c ∷ digits
-      split [] h e d = absurd (omega arith)
-      split (x ∷ l) h e d = λ i. e i ∷ sym d i
+  parts c is = front_parted bytes digits c some is behind
 
-  pub zero_at : first bytes ≡ 48 → Reads bytes (number (pos 0)) digits
-  zero_at is = subst (λ (l : List ℕ). Reads l (number (pos 0)) digits) (sym (parts 48 is)) (zero_read digits)
+  pub zero_at : first bytes ≡ 48 → ReadsToken bytes (number (pos 0)) digits
+  zero_at is = subst (λ (l : List ℕ). ReadsToken l (number (pos 0)) digits) (sym (parts 48 is)) (zero_read digits)
 
-  pub negative_at : first bytes ≡ 45 → (n : ℕ) (rest : List ℕ) (z : ℤ) → IsLeadingDigit (first digits) → ReadsDecimal digits n rest → z ≡ neg_ℤ (pos n) → Reads bytes (number z) rest
-  negative_at is n rest z lead d e = rw e (subst (λ (l : List ℕ). Reads l (number (neg_ℤ (pos n))) rest) (sym (parts 45 is)) (negative_read digits rest n lead d))
+  pub negative_at : first bytes ≡ 45 → (n : ℕ) (rest : List ℕ) (z : ℤ) → IsLeadingDigit (first digits) → ReadsDecimal digits n rest → z ≡ neg_ℤ (pos n) → ReadsToken bytes (number z) rest
+  negative_at is n rest z lead d e = rw e (subst (λ (l : List ℕ). ReadsToken l (number (neg_ℤ (pos n))) rest) (sym (parts 45 is)) (negative_read digits rest n lead d))
 
   pub no_number_at : first bytes ≡ 45 → (IsLeadingDigit (first digits) → ⊥) → HasNoToken bytes
   no_number_at is never = subst HasNoToken (sym (parts 45 is)) (no_number digits never)

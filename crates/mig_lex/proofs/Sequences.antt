@@ -3,7 +3,7 @@ use Rattle.std.proofs.Common.{◌≡◌, ℕ, zero, ◌<◌, ◌≤◌, List, []
 use Rattle.std.specs.List.{AllByRecursion}
 use Rattle.mig_token.specs.Token.{Tok}
 use Rattle.mig_token.specs.Lexical.{IsWhite, IsToken, AreTokens, no_token, token}
-use Rattle.mig_lex.specs.Reading.{SkipsWhite, Reads, HasNoToken}
+use Rattle.mig_lex.specs.Reading.{SkipsWhite, ReadsToken, HasNoToken}
 use Rattle.mig_lex.specs.Law.{OneReading}
 use Rattle.mig_lex.proofs.Lists.{all_at, all_joined, all_behind, first_of_front}
 use Rattle.mig_lex.proofs.Fronts.{one_front}
@@ -48,14 +48,14 @@ less_white w r a f (token v front rest t ts c x l more) e =
     subst (λ (b : List ℕ). AreTokens b (t ∷ ts)) same (token [] front rest t ts tt x l more)
 
 -- ---- the next token
-next_token : (bytes after : List ℕ) (t : Tok) → Reads bytes t after → {b : List ℕ} {us : List Tok} → AreTokens b us → b ≡ bytes → (ts : List Tok) × (us ≡ t ∷ ts) × AreTokens after ts
+next_token : (bytes after : List ℕ) (t : Tok) → ReadsToken bytes t after → {b : List ℕ} {us : List Tok} → AreTokens b us → b ≡ bytes → (ts : List Tok) × (us ≡ t ∷ ts) × AreTokens after ts
 next_token bytes after t h (no_token w a) e = absurd (white_no_token w [] h.front after t a (e ∙ h.whole) h.token)
 next_token bytes after t h (token w front rest u us a x l more) e =
     let same : front ++ rest ≡ h.front ++ after = white_parted w [] (front ++ rest) (h.front ++ after) a tt (fresh_front front rest u x) (fresh_front h.front after t h.token) (e ∙ h.whole) in
     let f = one_front front rest h.front after u t same x h.token l h.longest in
     (us, ap (λ (v : Tok). v ∷ us) (one_token front h.front u t f.0 x h.token), subst (λ (b : List ℕ). AreTokens b us) f.1 more)
 
-this_token : (bytes after : List ℕ) (t : Tok) (ts : List Tok) → Reads bytes t after → AreTokens after ts → AreTokens bytes (t ∷ ts)
+this_token : (bytes after : List ℕ) (t : Tok) (ts : List Tok) → ReadsToken bytes t after → AreTokens after ts → AreTokens bytes (t ∷ ts)
 this_token bytes after t ts h more = subst (λ (b : List ℕ). AreTokens b (t ∷ ts)) (sym h.whole) (token [] h.front after t ts tt h.token h.longest more)
 
 -- ---- the loop
@@ -76,7 +76,7 @@ begin bytes rest s = record {
   parted = λ us x. (us, refl, white_off bytes rest s us x);
 }
 
-pub begin_more : (bytes : List ℕ) (front : List Tok) (rest after next : List ℕ) (t : Tok) → BeginWith bytes front rest → Reads rest t after → SkipsWhite after next → BeginWith bytes (front ++ t ∷ []) next
+pub begin_more : (bytes : List ℕ) (front : List Tok) (rest after next : List ℕ) (t : Tok) → BeginWith bytes front rest → ReadsToken rest t after → SkipsWhite after next → BeginWith bytes (front ++ t ∷ []) next
 begin_more bytes front rest after next t b h s = record {
   joined = λ ts x. subst (AreTokens bytes) (sym (append_assoc front (t ∷ []) ts)) (b.joined (t ∷ ts) (this_token rest after t ts h (white_onto after next s ts x)));
   parted = λ us x.
@@ -85,7 +85,7 @@ begin_more bytes front rest after next t b h s = record {
       (q.0, p.1 ∙ ap (λ (l : List Tok). front ++ l) q.1 ∙ sym (append_assoc front (t ∷ []) q.0), white_off after next s q.0 q.2);
 }
 
-pub begin_smaller : (rest after next : List ℕ) (t : Tok) → Reads rest t after → SkipsWhite after next → length next < length rest
+pub begin_smaller : (rest after next : List ℕ) (t : Tok) → ReadsToken rest t after → SkipsWhite after next → length next < length rest
 begin_smaller rest after next t h s =
     omega (arith, ap length h.whole, length-append h.front after, has_byte h.token, ap length s.whole, length-append s.white next)
 

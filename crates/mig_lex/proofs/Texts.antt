@@ -1,14 +1,14 @@
 -- Reading of strings.
-use Rattle.std.proofs.Common.{◌≡◌, ◌≢◌, inl, inr, ℕ, suc, ◌+◌, ◌<◌, ◌≤◌, ◌==◌, Bool, true, false, List, [], ◌∷◌, ◌++◌, length, take, drop, get_or, refl, sym, ap, subst, ◌∙◌, append_assoc, length-append, length-take, length-take-le, take-append-drop, take_at, drop_at, ne_eqb, IsUtf8, IsTrue, ◌↔◌, MatchBool, HoldsAt, arith}
+use Rattle.std.proofs.Common.{◌≡◌, ◌≢◌, ℕ, suc, ◌+◌, ◌<◌, ◌≤◌, ◌==◌, Bool, true, false, List, [], ◌∷◌, ◌++◌, length, take, drop, get_or, refl, sym, ap, subst, ◌∙◌, append_assoc, length-append, length-take, length-take-le, take-append-drop, take_at, drop_at, ne_eqb, IsUtf8, IsTrue, ◌↔◌, MatchBool, HoldsAt, arith}
 use Rattle.std.specs.List.{AllByRecursion, AllWithin}
-use Rattle.mig_lex.proofs.Lists.{from_each, all_at}
+use Rattle.mig_lex.proofs.Lists.{from_each, all_at, front_parted}
 use Rattle.std.specs.Str.{chars, NonePass, NoCharPasses}
 use Rattle.std.proofs.lemmas.List.{get_or_at, get_or_append_left}
 use Rattle.std.proofs.lemmas.Str.{encodes-chars, NoCharPasses-byte}
 use Rattle.mig_token.specs.Token.{Tok, text}
 use Rattle.mig_token.specs.Lexical.{IsStringChar, IsToken, a_string}
-use Rattle.mig_lex.specs.Reading.{IsRun, Reads, HasNoToken}
-use Rattle.mig_lex.proofs.Fronts.{order}
+use Rattle.mig_lex.specs.Reading.{IsRun, ReadsToken, HasNoToken}
+use Rattle.mig_lex.proofs.Fronts.{not_less}
 use Rattle.mig_lex.proofs.Forms.{first, IsText, quoted, form_of, quoted_form, has_byte}
 
 none_quotation : (cs : List ℕ) → AllByRecursion IsStringChar cs → NonePass (λ c. c == 34) cs
@@ -23,7 +23,7 @@ no_quotation s i ok h e =
     let t : (34 == 34) ≡ false = sym (ap (λ c. c == 34) e) ∙ f in
     cc
 
-pub text_read : (bytes s rest : List ℕ) → bytes ≡ s ++ 34 ∷ rest → IsText s → Reads (34 ∷ bytes) (text s) rest
+pub text_read : (bytes s rest : List ℕ) → bytes ≡ s ++ 34 ∷ rest → IsText s → ReadsToken (34 ∷ bytes) (text s) rest
 text_read bytes s rest e ok = record {
   front = quoted s;
   whole = ap (λ (l : List ℕ). 34 ∷ l) (e ∙ sym (append_assoc s (34 ∷ []) rest));
@@ -48,22 +48,12 @@ module _ (bytes : List ℕ) (n : ℕ) (run : IsRun (λ b. b ≢ 34) 1024 bytes n
       let at : get_or bytes (length s) 0 ≡ 34 = ap (λ (l : List ℕ). get_or l (length s) 0) e ∙ get_or_at s 34 rest 0 (length s) refl in
       let short = ok.short in
       let size : length bytes ≡ length s + suc (length rest) = ap length e ∙ length-append s (34 ∷ rest) in
-      elim (order (length s) n) [
-        | inl le ↦ elim (order n (length s)) [ inl ge ↦ omega arith | inr h ↦ by_cases at le size ]
-        | inr ge ↦ omega (arith, at_least at short size ge)
-      ]
+      let most : length s ≤ n = not_less n (length s) (λ lt. run.last (omega arith) (omega arith) (λ q. no_quotation s n ok lt (within lt ∙ q))) in
+      let least : n ≤ length s = not_less (length s) n (λ lt. run.each (length s) lt at) in
+      omega arith
     where
-      at_least : get_or bytes (length s) 0 ≡ 34 → length s ≤ 1024 → length bytes ≡ length s + suc (length rest) → n ≤ length s → length s ≤ n
-      at_least at short size ge = not_less (λ lt. run.last (omega arith) (omega arith) (λ q. no_quotation s n ok lt (sym (ap (λ (l : List ℕ). get_or l n 0) e ∙ get_or_append_left s (34 ∷ rest) 0 n lt) ∙ q)))
-        where
-          not_less : (n < length s → ⊥) → length s ≤ n
-          not_less never = omega (arith, never)
-
-      by_cases : get_or bytes (length s) 0 ≡ 34 → length s ≤ n → length bytes ≡ length s + suc (length rest) → length s ≡ n
-      by_cases at le size = not_less (λ lt. run.each (length s) lt at)
-        where
-          not_less : (length s < n → ⊥) → length s ≡ n
-          not_less never = omega (arith, never, le)
+      within : n < length s → get_or s n 0 ≡ get_or bytes n 0
+      within lt = sym (ap (λ (l : List ℕ). get_or l n 0) e ∙ get_or_append_left s (34 ∷ rest) 0 n lt)
 
   pub text_token : (front rest : List ℕ) (t : Tok) → 34 ∷ bytes ≡ front ++ rest → IsToken front t → (drop n bytes ≡ 34 ∷ rest) × IsText (take n bytes)
   text_token [] rest t e x = absurd (omega (arith, has_byte x))
@@ -82,19 +72,11 @@ module _ (bytes : List ℕ) (n : ℕ) (run : IsRun (λ b. b ≢ 34) 1024 bytes n
   pub no_text : (s : List ℕ) → s ≡ take n bytes → (IsText s → ⊥) → HasNoToken (34 ∷ bytes)
   no_text s is never front r t e x = never (subst IsText (sym is) (text_token front r t e x).1)
 
-pub text_at : (bytes s rest behind : List ℕ) (n : ℕ) → s ≡ take n bytes → rest ≡ drop n bytes → n ≤ 1024 → first rest ≡ 34 → 1 ≤ length rest → behind ≡ drop 1 rest → IsUtf8 s → AllByRecursion IsStringChar (chars s) → Reads (34 ∷ bytes) (text s) behind
+pub text_at : (bytes s rest behind : List ℕ) (n : ℕ) → s ≡ take n bytes → rest ≡ drop n bytes → n ≤ 1024 → first rest ≡ 34 → 1 ≤ length rest → behind ≡ drop 1 rest → IsUtf8 s → AllByRecursion IsStringChar (chars s) → ReadsToken (34 ∷ bytes) (text s) behind
 text_at bytes s rest behind n p q short is some tail utf8 each =
     let whole : bytes ≡ s ++ rest = rw (p, q) (sym (take-append-drop n bytes)) in
     let size : length s ≤ 1024 = omega (arith, ap length p, length-take n bytes) in
-    text_read bytes s behind (whole ∙ ap (λ (l : List ℕ). s ++ l) (split rest some is tail)) (record { utf8 = utf8; each = each; short = size })
-  where
-    split : (l : List ℕ) → 1 ≤ length l → first l ≡ 34 → behind ≡ drop 1 l → l ≡ 34 ∷ behind
-    split [] h e d = absurd (omega arith)
-    split (x ∷ l) h e d = λ i. e i ∷ sym d i
-
-pub quotation_some : (l : List ℕ) → first l ≡ 34 → 0 < length l
-quotation_some [] e = absurd (omega (arith, e))
-quotation_some (c ∷ cs) e = omega arith
+    text_read bytes s behind (whole ∙ ap (λ (l : List ℕ). s ++ l) (front_parted rest behind 34 some is tail)) (record { utf8 = utf8; each = each; short = size })
 
 pub tested : (r : Bool) (bytes : List ℕ) → IsUtf8 bytes
     → MatchBool r (AllWithin IsStringChar (chars bytes) 0 (length (chars bytes))) ((k : ℕ) × (k < length (chars bytes)) × HoldsAt (λ c. IsStringChar c → ⊥) (chars bytes) k)

@@ -13,7 +13,7 @@ pub record SkipsWhite (bytes rest : List ℕ) : Type 0 where
   pub last : 0 < length rest → IsWhite (slice_index rest 0) → ⊥
 
 -- the longest token at the front of the bytes is t, and the rest stands behind it
-pub record Reads (bytes : List ℕ) (t : Tok) (rest : List ℕ) : Type 0 where
+pub record ReadsToken (bytes : List ℕ) (t : Tok) (rest : List ℕ) : Type 0 where
   pub front : List ℕ
   pub whole : bytes ≡ front ++ rest
   pub token : IsToken front t

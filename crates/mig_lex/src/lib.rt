@@ -14,6 +14,3 @@ pub use fault::LexFault;
 pub use pieces::{Pieces, cut, one_cut};
 pub use read::{one_reading, tokens};
 pub use white::is_blank;
-
-#[cfg(test)]
-mod tests;

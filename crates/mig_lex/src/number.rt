@@ -2,7 +2,7 @@
 ghost use Rattle.std.specs.Prelude.{◌≡◌, ℕ, ◌<◌, ◌≤◌, ◌^◌, ◌⊎◌, ◌↔◌, IsTrue, MatchOption, length, slice_index};
 ghost use Rattle.std.specs.Str.Parse.{digits_value};
 ghost use Rattle.mig_token.specs.Token.{tok_of};
-ghost use Rattle.mig_lex.specs.Reading.{IsRun, IsDigit, IsLeadingDigit, Reads, ReadsDecimal, HasNoToken};
+ghost use Rattle.mig_lex.specs.Reading.{IsRun, IsDigit, IsLeadingDigit, ReadsToken, ReadsDecimal, HasNoToken};
 
 use mig_token::Token;
 
@@ -51,7 +51,7 @@ fn begins_decimal(bytes: &[u8]) -> bool
 /// The number at the front and the bytes behind it. `0` stands alone, and `-` stands before another number than 0.
 pub(crate) fn number_at(bytes: &[u8]) -> Option<(Token<'_>, &[u8])>
     requires { IsDigit (slice_index bytes.now 0) ⊎ (slice_index bytes.now 0 ≡ 45) }
-    ensures { MatchOption result (HasNoToken bytes.now) (λ read. Reads bytes.now (tok_of read.0) read.1.now) }
+    ensures { MatchOption result (HasNoToken bytes.now) (λ read. ReadsToken bytes.now (tok_of read.0) read.1.now) }
 {
     match bytes {
         [b'0', rest @ ..] => Some((Token::Number(0), rest)),

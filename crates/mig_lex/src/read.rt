@@ -2,7 +2,7 @@
 ghost use Rattle.std.specs.Prelude.{◌≡◌, List, IfOk, MatchOption};
 ghost use Rattle.mig_token.specs.Token.{Tok, tok_of, toks};
 ghost use Rattle.mig_token.specs.Lexical.{AreTokens};
-ghost use Rattle.mig_lex.specs.Reading.{Reads, HasNoToken};
+ghost use Rattle.mig_lex.specs.Reading.{ReadsToken, HasNoToken};
 ghost use Rattle.mig_lex.specs.Law.{OneReading};
 
 use crate::fault::LexFault;
@@ -16,7 +16,7 @@ use std::alloc::Global;
 
 /// The token at the front, the longest that can be read, and the bytes behind it.
 fn token_at(bytes: &[u8]) -> Option<(Token<'_>, &[u8])>
-    ensures { MatchOption result (HasNoToken bytes.now) (λ read. Reads bytes.now (tok_of read.0) read.1.now) }
+    ensures { MatchOption result (HasNoToken bytes.now) (λ read. ReadsToken bytes.now (tok_of read.0) read.1.now) }
 {
     match bytes {
         [b'a'..=b'z', ..] => Some(word_at(bytes)),

@@ -2,7 +2,7 @@
 ghost use Rattle.std.specs.Prelude.{◌≡◌, ◌≢◌, ◌⊎◌, ◌↔◌, IsTrue, MatchOption, slice_index};
 ghost use Rattle.mig_token.specs.Lexical.{IsLetter};
 ghost use Rattle.mig_token.specs.Token.{tok_of};
-ghost use Rattle.mig_lex.specs.Reading.{IsDigit, Reads, HasNoToken};
+ghost use Rattle.mig_lex.specs.Reading.{IsDigit, ReadsToken, HasNoToken};
 
 use mig_token::{Mark, Token};
 
@@ -18,7 +18,7 @@ pub(crate) fn sign_at(bytes: &[u8]) -> Option<(Token<'_>, &[u8])>
     requires letter { IsLetter (slice_index bytes.now 0) → ⊥ }
     requires number { IsDigit (slice_index bytes.now 0) ⊎ (slice_index bytes.now 0 ≡ 45) → ⊥ }
     requires string { slice_index bytes.now 0 ≢ 34 }
-    ensures { MatchOption result (HasNoToken bytes.now) (λ read. Reads bytes.now (tok_of read.0) read.1.now) }
+    ensures { MatchOption result (HasNoToken bytes.now) (λ read. ReadsToken bytes.now (tok_of read.0) read.1.now) }
 {
     if begins_with_dots(bytes) {
         return Some((Token::Mark(Mark::Dots), &bytes[2..]));

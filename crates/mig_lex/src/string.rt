@@ -4,7 +4,7 @@ ghost use Rattle.std.specs.List.{AllByRecursion};
 ghost use Rattle.std.specs.Str.{chars};
 ghost use Rattle.mig_token.specs.Lexical.{IsStringChar};
 ghost use Rattle.mig_token.specs.Token.{tok_of};
-ghost use Rattle.mig_lex.specs.Reading.{IsRun, Reads, HasNoToken};
+ghost use Rattle.mig_lex.specs.Reading.{IsRun, ReadsToken, HasNoToken};
 
 use mig_token::Token;
 use std::str;
@@ -41,7 +41,7 @@ fn is_text(bytes: &[u8]) -> bool
 /// The string whose first quotation mark stands before these bytes, and the bytes behind it.
 pub(crate) fn string_at(bytes: &[u8]) -> Option<(Token<'_>, &[u8])>
     ensures { MatchOption result (HasNoToken (34 ∷ bytes.now))
-        (λ read. Reads (34 ∷ bytes.now) (tok_of read.0) read.1.now) }
+        (λ read. ReadsToken (34 ∷ bytes.now) (tok_of read.0) read.1.now) }
 {
     let (text, rest) = bytes.split_at(text_len(bytes));
     match rest {

@@ -2,7 +2,7 @@
 ghost use Rattle.std.specs.Prelude.{◌↔◌, IsTrue, slice_index};
 ghost use Rattle.mig_token.specs.Lexical.{IsLetter, IsWordByte};
 ghost use Rattle.mig_token.specs.Token.{tok_of};
-ghost use Rattle.mig_lex.specs.Reading.{IsRun, Reads};
+ghost use Rattle.mig_lex.specs.Reading.{IsRun, ReadsToken};
 
 use mig_token::{Mark, Token};
 
@@ -28,7 +28,7 @@ fn word_len(bytes: &[u8]) -> usize
 /// The word at the front and the bytes behind it: a reserved word, or else a name.
 pub(crate) fn word_at(bytes: &[u8]) -> (Token<'_>, &[u8])
     requires { IsLetter (slice_index bytes.now 0) }
-    ensures { Reads bytes.now (tok_of result.0) result.1.now }
+    ensures { ReadsToken bytes.now (tok_of result.0) result.1.now }
 {
     let (word, rest) = bytes.split_at(word_len(bytes));
     match Mark::of_spelling(word) {

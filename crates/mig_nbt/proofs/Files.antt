@@ -1,6 +1,7 @@
 -- What the reading of a file says of the format.
-use Rattle.std.proofs.Common.{◌≡◌, ℕ, List, Some, Result, Ok, Err, sym, ap, ◌∙◌}
+use Rattle.std.proofs.Common.{◌≡◌, ℕ, List, Result, Ok, Err, sym, ap, ◌∙◌}
 use Rattle.std.specs.Prelude.{IfOk}
+use Rattle.std.proofs.lemmas.Option.{same_Some}
 use Rattle.mig_model.specs.Plain.{Plain}
 use Rattle.mig_tree.specs.View.{plain_of}
 use Rattle.mig_tree.specs.declared.tree.Tree.{Tree}
@@ -29,11 +30,8 @@ none_is_wrong bytes (Ok x) g e name t p = absurd cc
 none_is_wrong bytes (Err errors.Wrong) g e name t p = let s = save_complete bytes name t p in absurd cc
 none_is_wrong bytes (Err errors.Memory) g e name t p = absurd cc
 
-some_is : (a b : List ℕ × Plain) → Some a ≡ Some b → a ≡ b
-some_is a b e = cc
-
 pub is_only : (bytes : List ℕ) (r : Result (List ℕ × Tree) NbtError) → GivesSave bytes r → IfOk r (λ x. (name : List ℕ) (t : Plain) → NbtSave bytes name t → (name ≡ x.0) × (t ≡ plain_of x.1))
 is_only bytes (Ok x) g = λ name t p.
-    let same : (name, t) ≡ (x.0, plain_of x.1) = some_is (name, t) (x.0, plain_of x.1) (sym (save_complete bytes name t p) ∙ g) in
+    let same : (name, t) ≡ (x.0, plain_of x.1) = same_Some (name, t) (x.0, plain_of x.1) (sym (save_complete bytes name t p) ∙ g) in
     (ap (λ (a : List ℕ × Plain). a.0) same, ap (λ (a : List ℕ × Plain). a.1) same)
 is_only bytes (Err e) g = tt

@@ -1,6 +1,7 @@
 -- The automaton tells groups.
 use Rattle.std.proofs.Common.{◌≡◌, ℕ, zero, suc, ◌<◌, ◌≤◌, List, [], ◌∷◌, Bool, true, false, cond, Option, Some, None, refl, sym, ap, ◌∙◌, subst, ◌⊎◌, inl, inr, arith}
 use Rattle.std.specs.Prelude.{nat_lt, nat_le, ◌&&◌, ◌==◌}
+use Rattle.std.proofs.lemmas.Option.{same_Some}
 use Rattle.std.proofs.Math.Dec.{eqb-suc-zero}
 use Rattle.std.proofs.lemmas.Bool.{le-ltb, lt-ltb, le-leb, ltb-true, leb-true}
 use Rattle.mig_nbt.specs.Format.{IsMore, Groups, none, one, two, three}
@@ -42,28 +43,25 @@ Behind (suc n) s = (b : ℕ) × (rest : List ℕ) × (s ≡ b ∷ rest) × IsMor
 abbrev First : ℕ → ℕ → Type 0
 First a n = ((n ≡ 0) × (a < 128)) ⊎ (((n ≡ 1) × (192 ≤ a) × (a < 224)) ⊎ ((n ≡ 2) × (224 ≤ a) × (a < 240)))
 
-value_of : (m n : ℕ) → Some m ≡ Some n → n ≡ m
-value_of m n e = cc
-
 first_byte : (a n : ℕ) → still_to_come 0 a ≡ Some n → First a n
 first_byte a n e = by (nat_lt a 128) refl (nat_le 192 a && nat_lt a 224) refl (nat_le 224 a && nat_lt a 240) refl e
   where
     by : (x : Bool) → nat_lt a 128 ≡ x → (y : Bool) → (nat_le 192 a && nat_lt a 224) ≡ y → (z : Bool) → (nat_le 224 a && nat_lt a 240) ≡ z
         → cond x (Some 0) (cond y (Some 1) (cond z (Some 2) None)) ≡ Some n → First a n
-    by true h y g z k e = inl (value_of 0 n e, ltb-true a 128 h)
+    by true h y g z k e = inl (sym (same_Some 0 n e), ltb-true a 128 h)
     by false h true g z k e =
         let b = split_and (nat_le 192 a) (nat_lt a 224) g in
-        inr (inl (value_of 1 n e, leb-true 192 a b.0, ltb-true a 224 b.1))
+        inr (inl (sym (same_Some 1 n e), leb-true 192 a b.0, ltb-true a 224 b.1))
     by false h false g true k e =
         let b = split_and (nat_le 224 a) (nat_lt a 240) k in
-        inr (inr (value_of 2 n e, leb-true 224 a b.0, ltb-true a 240 b.1))
+        inr (inr (sym (same_Some 2 n e), leb-true 224 a b.0, ltb-true a 240 b.1))
     by false h false g false k e = absurd cc
 
 next_byte : (n b m : ℕ) → still_to_come (suc n) b ≡ Some m → (m ≡ n) × IsMore b
 next_byte n b m e = by (is_more b) refl e
   where
     by : (x : Bool) → is_more b ≡ x → cond x (Some n) None ≡ Some m → (m ≡ n) × IsMore b
-    by true h e = let p = split_and (nat_le 128 b) (nat_lt b 192) h in (value_of n m e, (leb-true 128 b p.0, ltb-true b 192 p.1))
+    by true h e = let p = split_and (nat_le 128 b) (nat_lt b 192) h in (sym (same_Some n m e), (leb-true 128 b p.0, ltb-true b 192 p.1))
     by false h e = absurd cc
 
 three_of : (a : ℕ) (rest : List ℕ) → 224 ≤ a → a < 240 → Behind 2 rest → Groups (a ∷ rest)

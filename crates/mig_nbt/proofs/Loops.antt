@@ -1,7 +1,6 @@
 -- Reading one payload, or one named tag, after another, as a loop does.
 use Rattle.std.proofs.Common.{◌≡◌, ℕ, suc, ◌-◌, ◌+◌, ◌≤◌, ◌<◌, List, [], ◌∷◌, ◌++◌, length, false, Option, Some, None, refl, sym, ap, ◌∙◌, append_assoc, arith}
 use Rattle.std.proofs.lemmas.List.{append-nil}
-use Rattle.std.specs.Prelude.{if◌then◌else◌}
 use Rattle.mig_model.specs.Plain as plain
 use Rattle.mig_model.specs.Plain.{Plain, pairs_of}
 use Rattle.mig_model.specs.Names.{gathered}
@@ -19,10 +18,6 @@ module _ {A : Type 0} where
   regroup : (front : List A) (t : A) (read : Read (List A)) → ahead front (read >>= λ x. Some (t ∷ x.0, x.1)) ≡ ahead (front ++ t ∷ []) read
   regroup front t (Some x) = ap (λ (ts : List A). Some (ts, x.1)) (simp append_assoc)
   regroup front t None = refl
-
-  pub nothing_ahead : (read : Read (List A)) → ahead [] read ≡ read
-  nothing_ahead (Some x) = refl
-  nothing_ahead None = refl
 
 module _ (value : List ℕ → Read Plain) where
   pub payloads_go_on : (front : List Plain) (count i : ℕ) (bytes : List ℕ) (t : Plain) (after : List ℕ) (total : Read (List Plain)) → i < count → value bytes ≡ Some (t, after)
@@ -50,23 +45,10 @@ module _ (value : List ℕ → Read Plain) where
       sym so_far ∙ one
 
 module _ (value : Tag → List ℕ → Read Plain) where
-  -- one turn, with n turns left behind it
-  abbrev pub turn : ℕ → List ℕ → Read (List (List ℕ × Plain))
-  turn n bytes = do
-    k ← tag_at bytes
-    if is_end k.0 then Some ([], k.1) else (do
-      s ← text_at k.1
-      t ← value k.0 s.1
-      qs ← tags_at value n t.1
-      Some ((s.0, t.0) ∷ qs.0, qs.1))
-
   module _ (count i : ℕ) (front : List (List ℕ × Plain)) (bytes : List ℕ) (total : Read (List (List ℕ × Plain))) where
-    opened : i < count → ahead front (tags_at value (count - i) bytes) ≡ total → ahead front (turn (count - (i + 1)) bytes) ≡ total
-    unfolding tags_at
-    opened lt so_far =
-        let k : count - i ≡ suc (count - (i + 1)) = omega arith in
-        let one : ahead front (tags_at value (count - i) bytes) ≡ ahead front (turn (count - (i + 1)) bytes) = rw k refl in
-        sym one ∙ so_far
+    -- one turn is open
+    opened : i < count → ahead front (tags_at value (count - i) bytes) ≡ total → ahead front (tags_at value (suc (count - (i + 1))) bytes) ≡ total
+    opened lt so_far = ap (λ (k : ℕ). ahead front (tags_at value k bytes)) (omega arith) ∙ so_far
 
     pub tags_done : count ≤ i → ahead front (tags_at value (count - i) bytes) ≡ total → total ≡ None
     unfolding tags_at
@@ -77,33 +59,38 @@ module _ (value : Tag → List ℕ → Read Plain) where
 
     module _ (lt : i < count) (so_far : ahead front (tags_at value (count - i) bytes) ≡ total) where
       pub no_tag : (e : NbtError) → Fails e (tag_at bytes) → Fails e total
+      unfolding tags_at
       no_tag errors.Memory h = tt
       no_tag errors.Wrong h =
-          let one : ahead front (turn (count - (i + 1)) bytes) ≡ None = rw h refl in
+          let one : ahead front (tags_at value (suc (count - (i + 1))) bytes) ≡ None = rw h refl in
           sym (opened lt so_far) ∙ one
 
       pub at_end : (after : List ℕ) → tag_at bytes ≡ Some (End, after) → total ≡ Some (front, after)
+      unfolding tags_at
       at_end after h =
-          let one : ahead front (turn (count - (i + 1)) bytes) ≡ Some (front, after) = rw h (ap (λ (qs : List (List ℕ × Plain)). Some (qs, after)) (append-nil front)) in
+          let one : ahead front (tags_at value (suc (count - (i + 1))) bytes) ≡ Some (front, after) = rw h (ap (λ (qs : List (List ℕ × Plain)). Some (qs, after)) (append-nil front)) in
           sym (opened lt so_far) ∙ one
 
       module _ (k : Tag) (after : List ℕ) (h : tag_at bytes ≡ Some (k, after)) (goes : is_end k ≡ false) where
         pub no_name : (e : NbtError) → Fails e (text_at after) → Fails e total
+        unfolding tags_at
         no_name errors.Memory n = tt
         no_name errors.Wrong n =
-            let one : ahead front (turn (count - (i + 1)) bytes) ≡ None = rw (h, goes, n) refl in
+            let one : ahead front (tags_at value (suc (count - (i + 1))) bytes) ≡ None = rw (h, goes, n) refl in
             sym (opened lt so_far) ∙ one
 
         module _ (s behind : List ℕ) (n : text_at after ≡ Some (s, behind)) where
           pub no_tree : (e : NbtError) → Fails e (value k behind) → Fails e total
+          unfolding tags_at
           no_tree errors.Memory v = tt
           no_tree errors.Wrong v =
-              let one : ahead front (turn (count - (i + 1)) bytes) ≡ None = rw (h, goes, n, v) refl in
+              let one : ahead front (tags_at value (suc (count - (i + 1))) bytes) ≡ None = rw (h, goes, n, v) refl in
               sym (opened lt so_far) ∙ one
 
           pub tags_go_on : (t : Plain) (rest : List ℕ) → value k behind ≡ Some (t, rest) → ahead (front ++ (s, t) ∷ []) (tags_at value (count - (i + 1)) rest) ≡ total
+          unfolding tags_at
           tags_go_on t rest v =
-              let one : ahead front (turn (count - (i + 1)) bytes) ≡ ahead (front ++ (s, t) ∷ []) (tags_at value (count - (i + 1)) rest)
+              let one : ahead front (tags_at value (suc (count - (i + 1))) bytes) ≡ ahead (front ++ (s, t) ∷ []) (tags_at value (count - (i + 1)) rest)
               = rw (h, goes, n, v) (regroup front (s, t) (tags_at value (count - (i + 1)) rest)) in
               sym one ∙ opened lt so_far
 

@@ -5,8 +5,9 @@ use Rattle.std.specs.Int.{w8, w16, w32, w64, to_be_bytes, cast_unsigned}
 use Rattle.std.proofs.Math.Facts.{Fits-of_z}
 use Rattle.std.proofs.lemmas.Nat.{from_be_bytes-to_be_bytes_2, from_be_bytes-to_be_bytes_4, from_be_bytes-to_be_bytes_8}
 use Rattle.std.proofs.lemmas.Int.{to_z-of_z}
-use Rattle.mig_model.specs.Plain.{Plain, byte, short, int, long, float, double, text, bytes, ints, longs, list, map, null, boolean, whole, Trees, no_tree, tree, Pairs, no_pair, pair, entries, items, trees_of, pairs_of}
+use Rattle.mig_model.specs.Plain.{Plain, byte, short, int, long, float, double, text, bytes, ints, longs, list, map, Trees, no_tree, tree, Pairs, no_pair, pair, entries, items}
 use Rattle.mig_model.specs.Kinds.{IsMap}
+use Rattle.mig_tree.proofs.Places.{trees_back, pairs_back}
 use Rattle.mig_nbt.specs.declared.tag.Tag.{Tag}
 use Rattle.mig_nbt.specs.declared.tag.Tag.TheVariants as T
 use Rattle.mig_nbt.specs.Format.{Number, IsText, IsArray, Leaf, Payloads, Tags, Payload}
@@ -41,15 +42,6 @@ is_text s p = (to_be_bytes w16 (length s), length s, number16 (length s) p.1, p.
 elements : (size : ℕ) (x : List ℕ) (n m : ℕ) → length x ≡ n * size → m ≡ n → n < 2 ^ 31 → IsArray size (to_be_bytes w32 m ++ x) x
 elements size x n m e same l = (to_be_bytes w32 m, m, number32 m (omega arith), omega arith, e ∙ ap (λ (k : ℕ). k * size) (sym same), refl)
 
-trees_back : (ts : Trees) → trees_of (items ts) ≡ ts
-trees_back no_tree = refl
-trees_back (tree t ts) = ap (tree t) (trees_back ts)
-
--- the pairs of a map, as a list and back
-pub pairs_back : (ps : Pairs) → pairs_of (entries ps) ≡ ps
-pairs_back no_pair = refl
-pairs_back (pair k t ps) = ap (pair k t) (pairs_back ps)
-
 mutual
   pay : (t : Plain) (d : ℕ) → Keeps t → IsSpelled t → levels t ≤ d → Payload d (tag_of_plain t) (payload t) t
   pay (byte z) d k s l = leaf_any d T.Byte _ _ (cast_unsigned w8 z, number8 _ (omega (arith, Fits-of_z {w = w8} {z = z} k)), ap byte (sym (to_z-of_z w8 z k)))
@@ -67,9 +59,7 @@ mutual
       (element_of ts, to_be_bytes w32 (length (items ts)), length (items ts), payloads ts, items ts, refl, number32 _ (omega (arith, s.0)), s.0, refl, pay_all ts d (element_of ts) k.1 s.2 s.1 (omega arith), ap list (sym (trees_back ts)))
   pay (map ps) zero k s l = absurd (omega arith)
   pay (map ps) (suc d) k s l = (entries ps, entries ps, pay_pairs ps d k.2 s (omega arith), IsPermutation-refl (entries ps), k.0, ap map (sym (pairs_back ps)))
-  pay null d k s l = absurd s
-  pay (boolean b) d k s l = absurd s
-  pay (whole z) d k s l = absurd s
+  pay _ d k s l = absurd s
 
   pay_all : (ts : Trees) (d : ℕ) (e : Tag) → AllKeep ts → AreSpelled ts → AreOf e ts → trees_levels ts ≤ d → Payloads (Payload d e) (payloads ts) (items ts)
   pay_all no_tree d e k s a l = refl

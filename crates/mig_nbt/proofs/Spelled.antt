@@ -4,16 +4,17 @@ use Rattle.std.specs.Ordering.{is_eq, match_ordering}
 use Rattle.std.specs.declared.cmp.Ordering.{Ordering}
 use Rattle.std.specs.declared.cmp.Ordering.TheVariants.{Less, Equal, Greater}
 use Rattle.std.specs.List.{AllByRecursion}
+use Rattle.std.proofs.lemmas.Option.{same_Some}
 use Rattle.std.proofs.lemmas.List.Sorted.{All-permutation}
 use Rattle.std.proofs.lemmas.List.Elements.{recursion_from_All, All-from_recursion}
 use Rattle.mig_model.specs.Plain as plain
 use Rattle.mig_model.specs.Plain.{Plain, trees_of, Pairs, no_pair, pair, pairs_of, items, entries}
 use Rattle.mig_model.specs.Kinds.{IsMap, items_of_trees, get_in, removed, put_in}
-use Rattle.mig_model.specs.Names.{by_bytes, found, without, with_pair}
+use Rattle.mig_model.specs.Names.{by_bytes, without, under, put}
 use Rattle.mig_nbt.specs.declared.tag.Tag.{Tag}
 use Rattle.mig_nbt.specs.declared.tag.Tag.TheVariants as T
 use Rattle.mig_nbt.specs.Format.{IsText, Leaf, Payloads, IsList, Tags, IsCompound, Payload, NbtSave}
-use Rattle.mig_nbt.proofs.RoundTrip.{pairs_back}
+use Rattle.mig_tree.proofs.Places.{pairs_back}
 use Rattle.mig_nbt.specs.Writing.{tag_of_plain, element_of, IsName, AreOf, IsSpelled, AreSpelled, ArePairsSpelled}
 
 -- a spelled tree of a tag
@@ -37,9 +38,7 @@ leaf_is T.Text b t p = here T.Text t _ p.2 (name_is b p.0 p.1, refl)
 leaf_is T.ByteArray b t p = let a = p.1 in here T.ByteArray t _ p.2 (omega (arith, a.3, a.4), refl)
 leaf_is T.IntArray b t p = let a = p.1 in here T.IntArray t _ p.2 ((a.1, a.4, a.3), refl)
 leaf_is T.LongArray b t p = let a = p.1 in here T.LongArray t _ p.2 ((a.1, a.4, a.3), refl)
-leaf_is T.End b t p = absurd p
-leaf_is T.Items b t p = absurd p
-leaf_is T.Compound b t p = absurd p
+leaf_is _ b t p = absurd p
 
 -- a spelled pair of a map
 abbrev pub IsPair : List ℕ × Plain → Type 0
@@ -102,42 +101,26 @@ pairs_without x (e ∷ es) a = by (is_eq (by_bytes x e.0)) (pairs_without x es a
     by true rest = a.2
     by false rest = (a.0, a.1, rest)
 
-pub pairs_with : (x : List ℕ) (t : Plain) (es : List (List ℕ × Plain)) → IsName x → IsSpelled t → ArePairs es → ArePairs (with_pair x t es)
+pub pairs_with : (x : List ℕ) (t : Plain) (es : List (List ℕ × Plain)) → IsName x → IsSpelled t → ArePairs es → ArePairs (put x t es)
 pairs_with x t [] n s a = (n, s, tt)
 pairs_with x t (e ∷ es) n s a = by (by_bytes x e.0) (pairs_with x t es n s a.2)
   where
-    by : (r : Ordering) → ArePairs (with_pair x t es) → ArePairs (match_ordering r ((x, t) ∷ e ∷ es) ((e.0, t) ∷ es) (e ∷ with_pair x t es))
+    by : (r : Ordering) → ArePairs (put x t es) → ArePairs (match_ordering r ((x, t) ∷ e ∷ es) ((e.0, t) ∷ es) (e ∷ put x t es))
     by Less rest = (n, s, a)
     by Equal rest = (a.0, s, a.2)
     by Greater rest = (a.0, a.1, rest)
 
-pub found_spelled : (x : List ℕ) (es : List (List ℕ × Plain)) (t : Plain) → ArePairs es → found x es ≡ Some t → IsSpelled t
+pub found_spelled : (x : List ℕ) (es : List (List ℕ × Plain)) (t : Plain) → ArePairs es → under x es ≡ Some t → IsSpelled t
 found_spelled x [] t a e = absurd cc
 found_spelled x (u ∷ es) t a e = by (is_eq (by_bytes x u.0)) (found_spelled x es t a.2) e
   where
-    same : (p q : Plain) → Some p ≡ Some q → p ≡ q
-    same p q h = cc
-
-    by : (b : Bool) → (found x es ≡ Some t → IsSpelled t) → cond b (Some u.1) (found x es) ≡ Some t → IsSpelled t
-    by true rest h = subst IsSpelled (same u.1 t h) a.1
+    by : (b : Bool) → (under x es ≡ Some t → IsSpelled t) → cond b (Some u.1) (under x es) ≡ Some t → IsSpelled t
+    by true rest h = subst IsSpelled (same_Some u.1 t h) a.1
     by false rest h = rest h
 
 pub removed_spelled : (x : List ℕ) (t : Plain) → IsSpelled t → IsSpelled (removed x t)
 removed_spelled x (plain.map ps) a = pairs_without x (entries ps) (subst ArePairsSpelled (sym (pairs_back ps)) a)
-removed_spelled x (plain.byte z) a = a
-removed_spelled x (plain.short z) a = a
-removed_spelled x (plain.int z) a = a
-removed_spelled x (plain.long z) a = a
-removed_spelled x (plain.float n) a = a
-removed_spelled x (plain.double n) a = a
-removed_spelled x (plain.text s) a = a
-removed_spelled x (plain.bytes s) a = a
-removed_spelled x (plain.ints s) a = a
-removed_spelled x (plain.longs s) a = a
-removed_spelled x (plain.list ts) a = a
-removed_spelled x plain.null a = a
-removed_spelled x (plain.boolean b) a = a
-removed_spelled x (plain.whole z) a = a
+removed_spelled x _ a = a
 
 pub put_spelled : (x : List ℕ) (u t : Plain) → IsMap t → IsName x → IsSpelled u → IsSpelled t → IsSpelled (put_in x u t)
 put_spelled x u (plain.map ps) m n s a = pairs_with x u (entries ps) n s (subst ArePairsSpelled (sym (pairs_back ps)) a)

@@ -1,5 +1,6 @@
 -- What is written is read again, and what reading gives is what a file is.
 use Rattle.std.specs.Prelude.{◌≡◌, ◌↔◌, ℕ, suc, max, ◌≤◌, List, length, Some}
+use Rattle.mig_model.specs.declared.limits.TheConstants.{MOST_SAVE_BYTES}
 use Rattle.mig_model.specs.Plain.{Plain, list, map, Trees, no_tree, tree, Pairs, no_pair, pair}
 use Rattle.mig_model.specs.Kinds.{IsMap}
 use Rattle.mig_model.specs.Keeps.{Keeps}
@@ -24,7 +25,7 @@ abbrev mutual
 
 -- a spelled map within the reader's limits is what its canonical text stands for
 abbrev pub RoundTrip : Type 0
-RoundTrip = (name : List ℕ) (t : Plain) → IsName name → IsMap t → IsSpelled t → Keeps t → levels t ≤ 512 → length (save_text name t) ≤ 16777216 → NbtSave (save_text name t) name t
+RoundTrip = (name : List ℕ) (t : Plain) → IsName name → IsMap t → IsSpelled t → Keeps t → levels t ≤ 512 → length (save_text name t) ≤ MOST_SAVE_BYTES → NbtSave (save_text name t) name t
 
 -- reading gives a name and a tree exactly where the bytes are their file
 abbrev pub DecodeLaw : Type 0

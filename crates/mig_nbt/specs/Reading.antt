@@ -1,6 +1,7 @@
 -- Reading from left to right: a value and the bytes after it, or nothing.
 use Rattle.std.specs.Prelude.{◌≡◌, ℕ, zero, suc, ◌*◌, ◌^◌, List, [], ◌∷◌, length, take, drop, Bool, true, false, ◌&&◌, Option, Some, None, Result, Ok, Err, nat_lt, nat_le, ◌||◌, ◌==◌, if◌then◌else◌}
 use Rattle.std.specs.Int.{Width, w8, w16, w32, w64, byte_len, from_be_bytes, cast_signed}
+use Rattle.mig_model.specs.declared.limits.TheConstants.{MOST_SAVE_BYTES}
 use Rattle.mig_model.specs.Plain as plain
 use Rattle.mig_model.specs.Plain.{Plain, trees_of, pairs_of}
 use Rattle.mig_model.specs.Names.{gathered}
@@ -87,9 +88,7 @@ leaf_at Text bytes = seen plain.text (text_at bytes)
 leaf_at ByteArray bytes = seen plain.bytes (array_at 1 bytes)
 leaf_at IntArray bytes = seen plain.ints (array_at 4 bytes)
 leaf_at LongArray bytes = seen plain.longs (array_at 8 bytes)
-leaf_at End bytes = None
-leaf_at Items bytes = None
-leaf_at Compound bytes = None
+leaf_at _ bytes = None
 
 unfoldable pub payloads_at : (List ℕ → Read Plain) → ℕ → List ℕ → Read (List Plain)
 payloads_at value zero bytes = Some ([], bytes)
@@ -131,7 +130,7 @@ payload_at (suc d) Compound bytes = map_at (payload_at d) bytes
 payload_at _ k bytes = leaf_at k bytes
 
 unfoldable pub save_at : List ℕ → Option (List ℕ × Plain)
-save_at bytes = if nat_lt 16777216 (length bytes) then None else (do
+save_at bytes = if nat_lt MOST_SAVE_BYTES (length bytes) then None else (do
   k ← tag_at bytes
   if is_compound k.0 then (do
     name ← text_at k.1

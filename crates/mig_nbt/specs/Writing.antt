@@ -4,7 +4,7 @@ use Rattle.std.specs.Int.{w8, w16, w32, w64, to_be_bytes, cast_unsigned}
 use Rattle.mig_model.specs.Plain.{Plain, byte, short, int, long, float, double, text, bytes, ints, longs, list, map, null, boolean, whole, Trees, no_tree, tree, Pairs, no_pair, pair, items}
 use Rattle.mig_nbt.specs.declared.tag.Tag.{Tag}
 use Rattle.mig_nbt.specs.declared.tag.Tag.TheVariants as T
-use Rattle.mig_nbt.specs.Format.{number_of, Groups}
+use Rattle.mig_nbt.specs.Format.{tag_number, Groups}
 
 -- the tag of a tree; the kinds of JSON have none
 abbrev pub tag_of_plain : Plain → Tag
@@ -20,9 +20,7 @@ tag_of_plain (ints s) = T.IntArray
 tag_of_plain (longs s) = T.LongArray
 tag_of_plain (list ts) = T.Items
 tag_of_plain (map ps) = T.Compound
-tag_of_plain null = T.End
-tag_of_plain (boolean b) = T.End
-tag_of_plain (whole z) = T.End
+tag_of_plain _ = T.End
 
 -- the tag of the elements: that of the first, and End of an empty list
 abbrev pub element_of : Trees → Tag
@@ -45,7 +43,7 @@ abbrev mutual
   payload (bytes s) = to_be_bytes w32 (length s) ++ s
   payload (ints s) = to_be_bytes w32 (length s / 4) ++ s
   payload (longs s) = to_be_bytes w32 (length s / 8) ++ s
-  payload (list ts) = number_of (element_of ts) ∷ (to_be_bytes w32 (length (items ts)) ++ payloads ts)
+  payload (list ts) = tag_number (element_of ts) ∷ (to_be_bytes w32 (length (items ts)) ++ payloads ts)
   payload (map ps) = tags ps
   payload null = []
   payload (boolean b) = []
@@ -57,7 +55,7 @@ abbrev mutual
 
   pub tags : Pairs → List ℕ
   tags no_pair = 0 ∷ []
-  tags (pair name t ps) = number_of (tag_of_plain t) ∷ (text_bytes name ++ (payload t ++ tags ps))
+  tags (pair name t ps) = tag_number (tag_of_plain t) ∷ (text_bytes name ++ (payload t ++ tags ps))
 
 -- the canonical text of a named map
 abbrev pub save_text : List ℕ → Plain → List ℕ

@@ -10,6 +10,3 @@ pub use error::NbtError;
 pub use reading::read;
 pub use tag::Tag;
 pub use writing::{decoding, round_trip, write};
-
-#[cfg(test)]
-mod tests;

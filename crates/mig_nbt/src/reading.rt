@@ -10,6 +10,7 @@ ghost use Rattle.mig_tree.specs.View.{plain_of, entry_of};
 
 use crate::error::NbtError;
 use crate::tag::Tag;
+use mig_model::MOST_SAVE_BYTES;
 use mig_tree::{Entry, Items, Text, Tree, gather};
 use std::alloc::Global;
 
@@ -342,7 +343,7 @@ fn tags_at<'a>(
 fn save_at(alloc: Global, bytes: &[u8]) -> Result<(Text, Tree), NbtError>
     ensures { Gives (λ x. (x.0, plain_of x.1)) result (save_at bytes.now) }
 {
-    if bytes.len() > 16_777_216 {
+    if bytes.len() > MOST_SAVE_BYTES {
         return Err(NbtError::Wrong);
     }
     let (tag, rest) = tag_at(bytes)?;

@@ -1,9 +1,10 @@
 //! A name and a tree are written as their canonical bytes.
 ghost use Rattle.std.specs.Prelude.{◌≡◌, ◌++◌, ◌∷◌, [], ◌<◌, ◌≤◌, ◌^◌, ◌/◌, length, map, OnOk, IfOk};
 ghost use Rattle.std.specs.Int.{w8, w16, w32, w64, to_be_bytes};
+ghost use Rattle.mig_model.specs.declared.limits.TheConstants.{MOST_SAVE_BYTES};
 ghost use Rattle.mig_tree.specs.View.{plain_of, entry_of};
 ghost use Rattle.mig_model.specs.Plain.{trees_of, pairs_of};
-ghost use Rattle.mig_nbt.specs.Format.{number_of, NbtSave};
+ghost use Rattle.mig_nbt.specs.Format.{tag_number, NbtSave};
 ghost use Rattle.mig_nbt.specs.Writing.{tag_of_plain, element_of, text_bytes, payload, payloads, tags, IsSpelled, AreSpelled, ArePairsSpelled, IsName, save_text};
 ghost use Rattle.mig_model.specs.Kinds.{IsMap};
 ghost use Rattle.mig_nbt.specs.Law.{RoundTrip, DecodeLaw, levels};
@@ -14,7 +15,7 @@ use std::alloc::{AllocError, Global};
 
 /// The number of the tag.
 fn number_of(tag: Tag) -> u8
-    ensures { result ≡ number_of tag }
+    ensures { result ≡ tag_number tag }
 {
     match tag {
         Tag::End => 0,
@@ -147,7 +148,7 @@ pub fn write(alloc: Global, name: &[u8], tree: &Tree) -> Result<Vec<u8>, Memory>
     requires spelled { IsSpelled (plain_of tree.now) }
     ensures text { IfOk result (λ out. out.items ≡ save_text name.now (plain_of tree.now)) }
     ensures reads_back { IfOk result (λ out. levels (plain_of tree.now) ≤ 512
-        → length out.items ≤ 16777216 → NbtSave out.items name.now (plain_of tree.now)) }
+        → length out.items ≤ MOST_SAVE_BYTES → NbtSave out.items name.now (plain_of tree.now)) }
 {
     tree.keeps();
     let mut out = Vec::new(alloc);

@@ -15,3 +15,5 @@ mod refused;
 mod rules;
 #[cfg(test)]
 mod templates;
+#[cfg(test)]
+mod tokens;

@@ -1,5 +1,6 @@
 use Rattle.std.proofs.Common.{arith}
-use Rattle.mig_json.proofs.Parts.{item_smaller, item_json, entry_smaller, entry_json}
+use Rattle.mig_tree.proofs.Places.{item_smaller, entry_smaller}
+use Rattle.mig_json.proofs.Parts.{item_json, entry_json}
 use Rattle.mig_json.proofs.writing.+writing.Goals as goal
 
 pub write_items-write_tree-requires : goal.write_items-write_tree-requires

@@ -1,6 +1,7 @@
 use Rattle.std.proofs.Common.{append_assoc, arith}
 use Rattle.std.proofs.lemmas.Grind.{common_steps}
-use Rattle.mig_nbt.proofs.Written.{list_fits, list_written, item_smaller, item_spelled, entry_smaller, entry_spelled}
+use Rattle.mig_tree.proofs.Places.{item_smaller, entry_smaller}
+use Rattle.mig_nbt.proofs.Written.{list_fits, list_written, item_spelled, entry_spelled}
 use Rattle.mig_nbt.proofs.writing.+payload.Goals as goal
 
 pub write_payload-overflow_cast-trees : goal.write_payload-overflow_cast-trees

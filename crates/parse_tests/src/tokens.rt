@@ -1,5 +1,5 @@
 //! Each kind of token, and bytes that are none.
-use crate::{cut, is_blank, tokens};
+use mig_lex::{cut, is_blank, tokens};
 use std::alloc::Global;
 use std::test::Fail;
 

@@ -1,5 +1,5 @@
 //! What no contract says: calls succeed with ample memory; and files written elsewhere, on both sides of each bound.
-use crate::{NbtError, read, write};
+use mig_nbt::{NbtError, read, write};
 use std::alloc::Global;
 use std::process::Abort;
 

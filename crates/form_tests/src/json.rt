@@ -1,5 +1,5 @@
 //! Doubtful texts, and what is written of them.
-use crate::{JsonError, parse, write};
+use mig_json::{JsonError, parse, write};
 use std::alloc::Global;
 use std::test::Fail;
 

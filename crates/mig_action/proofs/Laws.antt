@@ -1,29 +1,25 @@
 -- The laws of field functions.
-use Rattle.std.proofs.Common.{◌≡◌, ℕ, suc, List, [], ◌∷◌, true, false, true≢false, Option, Some, None, refl, sym, ap, subst, ◌∙◌, arith}
+use Rattle.std.proofs.Common.{◌≡◌, ℕ, suc, List, [], ◌∷◌, true, true≢false, Some, None, refl, sym, ap, ◌∙◌, arith}
 use Rattle.std.specs.Prelude.{is_some, Contains}
 use Rattle.std.specs.List.{AllByRecursion}
-use Rattle.mig_model.specs.declared.presence.Presence.{Presence}
 use Rattle.mig_model.specs.Plain as plain
-use Rattle.mig_model.specs.Plain.{pairs_of, entries}
-use Rattle.mig_model.specs.Template.{Template}
-use Rattle.mig_model.specs.Plain.{on_entries}
+use Rattle.mig_model.specs.Plain.{pairs_of, entries, on_entries}
 use Rattle.mig_template.specs.Parts as template
 use Rattle.mig_value.specs.Typed.{Typed, out, tag_pair}
 use Rattle.mig_value.specs.Parts as value
-use Rattle.mig_value.specs.Parts.{NodeParts, IsRecord}
-use Rattle.mig_value.specs.Fit.{Fits, Fit, IsOfForm}
-use Rattle.mig_action.specs.Edits.{under, has}
+use Rattle.mig_value.specs.Parts.{NodeParts, IsRecordValue}
+use Rattle.mig_value.specs.Fit.{ValueFits, Fit, IsOfForm}
+use Rattle.mig_model.specs.Names.{under, has}
 use Rattle.mig_action.specs.NewRecord.{is_tag}
 use Rattle.mig_action.specs.FieldFn.{FieldFn}
 use Rattle.mig_action.specs.Act.{act}
 use Rattle.mig_action.specs.Moves.{apply}
 use Rattle.mig_action.specs.Nodes.{nodes_at}
 use Rattle.mig_action.specs.Laws.{Applies, TreeActs, ShapeStays, FitStays, NodesStay, NoMoreNodes, PartsStay}
-use Rattle.mig_action.proofs.Stands.{Stands, fits_stand, stand_fits, case_of}
-use Rattle.mig_action.proofs.Settings.{none-there}
+use Rattle.mig_action.proofs.Stands.{none_stands, stands_there, fits_stand, stand_fits, case_of}
 use Rattle.mig_action.proofs.Orders.{pairs_of_record}
 use Rattle.mig_action.proofs.Distinct.{distinct_of, names_once}
-use Rattle.mig_action.proofs.Scopes.{Suits, Becomes, tag_under, stands_none}
+use Rattle.mig_action.proofs.Scopes.{Suits, Becomes, tag_under}
 use Rattle.mig_action.proofs.Whole.{applied}
 use Rattle.mig_action.proofs.Counts.{applied_counts}
 use Rattle.mig_action.proofs.AtPoints.{Has, listed, given}
@@ -34,7 +30,7 @@ use Rattle.mig_model.proofs.Bools.{split_or}
 
 -- what a value may be at `any`: whatever it is, or a value whose tree is of a form
 module _ (U : Typed → Type 0) (P : List ℕ → Typed → Type 0) (f : FieldFn) (p r : template.RecordParts) (v : value.RecordParts) (a : Applies f p r v)
-    (h : Fits U P (template.record_of p) (value.record_of v))
+    (h : ValueFits U P (template.record_of p) (value.record_of v))
     (field_any : (x : List ℕ) (w : Typed) → under x v.fields ≡ Some w → U w)
     (case_any : (x : List ℕ) (w : Typed) → under x v.fields ≡ None → under x (tag_pair v.tag) ≡ None → under x v.cased ≡ Some w → U w) where
   suits : Suits U P p v
@@ -53,32 +49,26 @@ module _ (U : Typed → Type 0) (P : List ℕ → Typed → Type 0) (f : FieldFn
       }
     where
       there : (x : List ℕ) (w : Typed) → under x v.cased ≡ Some w → has x (case_of p.choice v.tag) ≡ true
-      there x w e = by (under x (case_of p.choice v.tag)) (under x v.cased) e ((fits_stand U P p v h).cased x)
-        where
-          by : (F : Option (Presence × Template)) (S : Option Typed) → S ≡ Some w → Stands U P F S → is_some F ≡ true
-          by F None k s = absurd (let n : None ≡ Some w = k in cc)
-          by None (Some u) k s = absurd s
-          by (Some g) (Some u) k s = refl
+      there x w e = stands_there U P (under x (case_of p.choice v.tag)) (under x v.cased) ((fits_stand U P p v h).cased x) (ap is_some e)
 
       apart : (x : List ℕ) (w : Typed) → under x v.cased ≡ Some w → under x (tag_pair v.tag) ≡ None
       apart x w e = tag_under x p.choice v.tag (fits_stand U P p v h).tag ((distinct_of p a.record_kept.0 v.tag).cased x (there x w e))
 
       alone : (x : List ℕ) (w : Typed) → under x v.cased ≡ Some w → under x v.fields ≡ None
       alone x w e =
-          let no_field : has x p.fields ≡ false =
-          false_from_ne_true (has x p.fields) (λ k. true≢false (sym (there x w e) ∙ (split_or (is_tag x p.choice) (has x (case_of p.choice v.tag)) ((distinct_of p a.record_kept.0 v.tag).fields x k)).1)) in
-          stands_none U P (under x v.fields) (subst (λ F. Stands U P F (under x v.fields)) (none-there (under x p.fields) no_field) ((fits_stand U P p v h).fields x))
+          none_stands U P (under x p.fields) (under x v.fields) ((fits_stand U P p v h).fields x)
+          (false_from_ne_true (has x p.fields) (λ k. true≢false (sym (there x w e) ∙ (split_or (is_tag x p.choice) (has x (case_of p.choice v.tag)) ((distinct_of p a.record_kept.0 v.tag).fields x k)).1)))
 
   becomes : Becomes U P r (apply f p v) (act f p (pairs_of_record v))
   becomes = applied U P f p r v suits a.fits
 
-  pub fits_after : Fits U P (template.record_of r) (value.record_of (apply f p v))
+  pub fits_after : ValueFits U P (template.record_of r) (value.record_of (apply f p v))
   fits_after = stand_fits U P r (apply f p v) becomes.distinct.fields_ascend becomes.distinct.cased_ascend becomes.fields_ascend becomes.cased_ascend becomes.rest_ascend becomes.stand
 
   pub tree_after : out (value.record_of (apply f p v)) ≡ on_entries (act f p) (out (value.record_of v))
   tree_after = ap (λ es. plain.map (pairs_of es)) (becomes.map ∙ ap (act f p) (sym (entries_of_pairs (pairs_of_record v))))
 
-  pub parts_after : IsRecord (apply f p v)
+  pub parts_after : IsRecordValue (apply f p v)
   parts_after = record {
     fields = becomes.fields_ascend;
     cased = becomes.cased_ascend;

@@ -4,7 +4,6 @@ pub mod Settings
 pub mod OneName
 pub mod Same
 pub mod Values
-pub mod Single
 pub mod Orders
 pub mod Several
 pub mod Ops

@@ -1,14 +1,13 @@
 -- Changes at a single name.
-use Rattle.std.proofs.Common.{◌≡◌, ℕ, List, Bool, true, false, Option, Some, None, refl, sym, ap, subst, ◌∙◌}
+use Rattle.std.proofs.Common.{◌≡◌, ℕ, List, Bool, true, false, Option, Some, None, refl, sym, ap, subst, ◌∙◌, arith}
 use Rattle.std.specs.Prelude.{option_map, if◌then◌else◌}
 use Rattle.mig_model.specs.declared.presence.Presence.{Presence}
 use Rattle.mig_model.specs.Plain.{Plain}
-use Rattle.mig_model.specs.Ascends.{Ascends}
-use Rattle.mig_model.specs.Template.{Template, Field, same_name}
+use Rattle.mig_model.specs.Names.{Ascends, same_name, under, has, without, put, bring, changed}
+use Rattle.mig_model.specs.Template.{Template, Field}
 use Rattle.mig_model.specs.Inhabits.{Entries}
 use Rattle.mig_value.specs.Typed.{Typed, out}
-use Rattle.mig_value.specs.Fit.{Fits}
-use Rattle.mig_action.specs.Edits.{under, has, without, put, bring, changed}
+use Rattle.mig_value.specs.Fit.{ValueFits}
 use Rattle.mig_action.specs.NewRecord.{Scoped}
 use Rattle.mig_action.specs.Moves.{Moving}
 use Rattle.mig_action.proofs.Edits.{first, at_name, unaffected, changed_at, bring_at, under-put, under-without, ascends-put, ascends-without, ascends-bring, ascends-changed}
@@ -57,7 +56,7 @@ module _ (U : Typed → Type 0) (P : List ℕ → Typed → Type 0) (opened : Bo
       fields_are = c.fields_are;
       slots_are = c.slots_are;
       rest_is = c.rest_is;
-      map_is = λ n. c.map_is n ∙ by n (same_name n x) refl;
+      map_is = λ n. let none = d.away_alone n in grind (arith, c.map_is n, c.tree, none, alone, same_name_is n x);
       stand = λ n h. c.stand;
       rests = λ n h. at_name (λ k. IsRest U F (away k) opened R) n x h here;
       apart = λ n h k. at_name (λ k'. s.taken k' ≡ false) n x h c.free;
@@ -68,11 +67,6 @@ module _ (U : Typed → Type 0) (P : List ℕ → Typed → Type 0) (opened : Bo
 
         here : IsRest U F (away x) opened R
         here = subst (λ b. IsRest U F b opened R) (sym alone) c.rests
-
-        by : (n : List ℕ) (b : Bool) → same_name n x ≡ b → (if b then T else under n es) ≡ (if b then first (option_map out S) (first (elsewhere n) (option_map out R)) else under n es)
-        by n false h = refl
-        by n true h =
-            c.tree ∙ ap (λ o. first (option_map out S) (first o (option_map out R))) (sym (d.away_alone n (ap away (same_name_is n x h) ∙ alone)))
 
     -- ---- a field is taken out, and its value with it
     module _ (x : List ℕ) (h : has x s.fields ≡ true) where
@@ -130,19 +124,11 @@ module _ (U : Typed → Type 0) (P : List ℕ → Typed → Type 0) (opened : Bo
         slots_are = changed_at x f m.slots;
         rest_is = unaffected x m.rest;
         map_is = changed_at x g es;
-        tree =
-            ap (option_map g) (own_tree U P opened away s m t elsewhere es d x h)
-            ∙ (by (under x m.slots) refl
-            ∙ (sym (first-none (option_map out (option_map f (under x m.slots))))
-            ∙ ap (λ o. first (option_map out (option_map f (under x m.slots))) (option_map out o)) (sym rest_none)));
+        tree = grind (arith, own_tree U P opened away s m t elsewhere es d x h, rest_none, same);
         stand = k;
         rests = subst (IsRest U (Some new) false opened) (sym rest_none) tt;
         free = t.apart x h;
       })
-        where
-          by : (S : Option Typed) → under x m.slots ≡ S → option_map g (option_map out S) ≡ option_map out (option_map f S)
-          by None l = refl
-          by (Some v) l = ap Some (sym (same v l))
 
       -- a field gets another presence or template, and its value stays
       pub kept : (new : Presence × Template) → Stands U P (Some new) (under x m.slots) → Settled s (put x new s.fields) m es
@@ -162,7 +148,7 @@ module _ (U : Typed → Type 0) (P : List ℕ → Typed → Type 0) (opened : Bo
       })
 
       -- a field whose value is absent gets one
-      pub given : (new : Presence × Template) (v : Typed) (u : Plain) → Fits U P new.1 v → u ≡ out v → Settled s (put x new s.fields) (record { slots = put x v m.slots; rest = m.rest }) (put x u es)
+      pub given : (new : Presence × Template) (v : Typed) (u : Plain) → ValueFits U P new.1 v → u ≡ out v → Settled s (put x new s.fields) (record { slots = put x v m.slots; rest = m.rest }) (put x u es)
       given new v u k same = at_one x _ _ _ (Some new) (Some v) (under x m.rest) (Some u) (record {
         fields_ascend = ascends-put x new s.fields t.fields_ascend;
         slots_ascend = ascends-put x v m.slots t.slots_ascend;

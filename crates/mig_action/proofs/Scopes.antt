@@ -1,13 +1,13 @@
 -- A whole record: its common fields, or the fields of the tag's case, are a scope of it.
-use Rattle.std.proofs.Common.{◌≡◌, ℕ, List, [], ◌∷◌, Bool, true, false, true≢false, Option, Some, None, refl, sym, ap, subst, ◌∙◌, IsTrue}
+use Rattle.std.proofs.Common.{◌≡◌, ℕ, List, [], ◌∷◌, Bool, true, false, true≢false, Option, Some, None, refl, sym, ap, subst, ◌∙◌, IsTrue, arith}
 use Rattle.std.specs.Prelude.{not, ◌||◌, is_some, option_map, unwrap_or, if◌then◌else◌}
 use Rattle.mig_model.specs.declared.presence.Presence.{Presence}
 use Rattle.mig_model.specs.declared.rest.Rest.{Rest}
 use Rattle.mig_model.specs.Plain as plain
 use Rattle.mig_model.specs.Plain.{Plain}
-use Rattle.mig_model.specs.Ascends.{Ascends}
-use Rattle.mig_model.specs.Template.{Template, Field, fields_of, same_name, cases_of, is_open}
-use Rattle.mig_model.specs.Fields.{is_field, is_in_choice, is_case_field}
+use Rattle.mig_model.specs.Names.{Ascends, same_name, under, has, put}
+use Rattle.mig_model.specs.Template.{Template, Field, cases_of, is_open}
+use Rattle.mig_model.specs.Fields.{is_in_choice, is_case_field}
 use Rattle.mig_model.specs.Inhabits.{Entries}
 use Rattle.mig_template.specs.Parts as template
 use Rattle.mig_template.specs.Parts.{IsRecord, choice_of, found_case}
@@ -16,18 +16,17 @@ use Rattle.mig_value.specs.Typed.{Typed, Slot, Tag, out, tag_pair}
 use Rattle.mig_value.specs.Parts as value
 use Rattle.mig_value.specs.Fit.{TagFits, has_literal, has_unknown_tag}
 use Rattle.mig_value.specs.Kept as value_kept
-use Rattle.mig_action.specs.Edits.{under, has, put}
 use Rattle.mig_action.specs.FieldFn.{FieldOp}
 use Rattle.mig_action.specs.NewRecord.{Scoped, is_tag, new_fields}
 use Rattle.mig_action.specs.Act.{edit}
 use Rattle.mig_action.specs.Moves.{Moving, move, with_moving, with_moving_case}
-use Rattle.mig_action.proofs.Edits.{first, same_under, under-put}
-use Rattle.mig_action.proofs.Stands.{Stands, IsRest, RecordStands, opened, case_of, has_either, field_is, literal_is}
-use Rattle.mig_action.proofs.Settings.{Setting, Mapped, none-there}
+use Rattle.mig_action.proofs.Edits.{first, none-there, same_under, under-put}
+use Rattle.mig_action.proofs.Stands.{Stands, IsRest, none_stands, stands_there, RecordStands, opened, case_of, has_either, field_is, literal_is}
+use Rattle.mig_action.proofs.Settings.{Setting, Mapped}
 use Rattle.mig_action.proofs.Orders.{pairs_of_record, under_record, ascends-in_order, pairs_by_list}
 use Rattle.mig_action.proofs.Distinct.{Distinct, common_apart, case_apart, case_ascends, distinct_of}
 use Rattle.mig_action.proofs.Ops.{op_settled}
-use Rattle.mig_model.proofs.Bools.{right_or, both_false, split_or}
+use Rattle.mig_model.proofs.Bools.{both_false, split_or}
 use Rattle.std.proofs.lemmas.Bool.{false_from_ne_true}
 use Rattle.mig_model.proofs.SameNames.{same_name_itself}
 
@@ -38,10 +37,10 @@ pub record Suits (U : Typed → Type 0) (P : List ℕ → Typed → Type 0) (p :
   pub fields_ascend : Ascends v.fields
   pub cased_ascend : Ascends v.cased
   pub rest_ascend : Ascends v.rest
-  pub templates : (x : List ℕ) (f : Presence × Template) → under x p.fields ≡ Some f → template_kept.IsKept f.1
-  pub case_templates : (l : List ℕ) (ds : List Field) → found_case l p.choice ≡ Some ds → (x : List ℕ) (f : Presence × Template) → under x ds ≡ Some f → template_kept.IsKept f.1
-  pub values : (x : List ℕ) (w : Typed) → under x v.fields ≡ Some w → value_kept.IsKept w × U w
-  pub case_values : (x : List ℕ) (w : Typed) → under x v.cased ≡ Some w → value_kept.IsKept w × U w
+  pub templates : (x : List ℕ) (f : Presence × Template) → under x p.fields ≡ Some f → template_kept.TemplateKept f.1
+  pub case_templates : (l : List ℕ) (ds : List Field) → found_case l p.choice ≡ Some ds → (x : List ℕ) (f : Presence × Template) → under x ds ≡ Some f → template_kept.TemplateKept f.1
+  pub values : (x : List ℕ) (w : Typed) → under x v.fields ≡ Some w → value_kept.ValueKept w × U w
+  pub case_values : (x : List ℕ) (w : Typed) → under x v.cased ≡ Some w → value_kept.ValueKept w × U w
 
 -- the value of the new record, and its map
 pub record Becomes (U : Typed → Type 0) (P : List ℕ → Typed → Type 0) (r : template.RecordParts) (w : value.RecordParts) (es : Entries) : Type 0 where
@@ -53,36 +52,18 @@ pub record Becomes (U : Typed → Type 0) (P : List ℕ → Typed → Type 0) (r
   pub map : pairs_of_record w ≡ es
 
 first-assoc : {A : Type 0} (a b c : Option A) → first (first a b) c ≡ first a (first b c)
-first-assoc None b c = refl
-first-assoc (Some a) b c = refl
+first-assoc a b c = grind arith
 
 case_field : (n l : List ℕ) (cs : List template.Case) → has n (unwrap_or (under l cs) []) ≡ true → is_case_field n (cases_of cs) ≡ true
 case_field n l [] h = h
-case_field n l (c ∷ cs) h = by (same_name l c.0) (case_field n l cs) h
-  where
-    or_left : (a b : Bool) → a ≡ true → (a || b) ≡ true
-    or_left true b e = refl
-    or_left false b e = absurd (true≢false (sym e))
-
-    by : (b : Bool) → (has n (unwrap_or (under l cs) []) ≡ true → is_case_field n (cases_of cs) ≡ true) → has n (unwrap_or (if b then Some c.1 else under l cs) []) ≡ true
-        → (is_field n (fields_of c.1) || is_case_field n (cases_of cs)) ≡ true
-    by true rest k = or_left (is_field n (fields_of c.1)) (is_case_field n (cases_of cs)) (field_is n c.1 ∙ k)
-    by false rest k = right_or (is_field n (fields_of c.1)) (is_case_field n (cases_of cs)) (rest k)
+case_field n l (c ∷ cs) h = grind (arith, field_is n c.1, case_field n l cs)
 
 -- a name elsewhere in the value is one of the choice's
 pub either_taken : (n : List ℕ) (c : Option template.Cases) (tag : Option Tag) → has_either n c tag ≡ true → is_in_choice n (choice_of c) ≡ true
 either_taken n None None h = h
 either_taken n None (Some t) h = h
-either_taken n (Some c) None h = by (same_name n c.0) h
-  where
-    by : (b : Bool) → (b || false) ≡ true → (b || is_case_field n (cases_of c.1)) ≡ true
-    by true k = refl
-    by false k = absurd (true≢false (sym k))
-either_taken n (Some c) (Some t) h = by (same_name n c.0) h
-  where
-    by : (b : Bool) → (b || has n (case_of (Some c) (Some t))) ≡ true → (b || is_case_field n (cases_of c.1)) ≡ true
-    by true k = refl
-    by false k = case_field n t.1 c.1 k
+either_taken n (Some c) None h = grind arith
+either_taken n (Some c) (Some t) h = grind (arith, case_field n t.1 c.1)
 
 -- what stands under the tag's name
 pub tag_under : (n : List ℕ) (c : Option template.Cases) (tag : Option Tag) → TagFits (choice_of c) tag → is_tag n c ≡ false → under n (tag_pair tag) ≡ None
@@ -91,10 +72,6 @@ tag_under n None (Some t) h k = absurd h
 tag_under n (Some c) (Some t) h k = ap (λ b. if b then Some (plain.text t.1) else None) (ap (same_name n) h.0 ∙ k)
 
 module _ (U : Typed → Type 0) (P : List ℕ → Typed → Type 0) where
-  pub stands_none : (S : Option Typed) → Stands U P None S → S ≡ None
-  stands_none None h = refl
-  stands_none (Some v) h = absurd h
-
   -- ---- the common fields
   module _ (p : template.RecordParts) (v : value.RecordParts) (q : Suits U P p v) where
     abbrev common_scope : Scoped
@@ -125,7 +102,7 @@ module _ (U : Typed → Type 0) (P : List ℕ → Typed → Type 0) where
       ascend = ascends-in_order (pairs_by_list v);
       away_alone = λ n h.
           let s = split_or (is_tag n p.choice) (has n (case_of p.choice v.tag)) h in
-          (λ i. first (tag_under n p.choice v.tag q.stand.tag s.0 i) (option_map out (stands_none (under n v.cased) (subst (λ F. Stands U P F (under n v.cased)) (none-there (under n (case_of p.choice v.tag)) s.1) (q.stand.cased n)) i)));
+          (λ i. first (tag_under n p.choice v.tag q.stand.tag s.0 i) (option_map out (none_stands U P (under n (case_of p.choice v.tag)) (under n v.cased) (q.stand.cased n) s.1 i)));
       at = λ n. under_record v n ∙ ap (first (option_map out (under n v.fields))) (sym (first-assoc (under n (tag_pair v.tag)) (option_map out (under n v.cased)) (option_map out (under n v.rest))));
     }
 
@@ -197,30 +174,24 @@ module _ (U : Typed → Type 0) (P : List ℕ → Typed → Type 0) where
       }
 
       no_field : (n : List ℕ) → has n fs ≡ false → under n vf ≡ None
-      no_field n h = stands_none (under n vf) (subst (λ F. Stands U P F (under n vf)) (none-there (under n fs) h) (q.stand.fields n))
+      no_field n h = none_stands U P (under n fs) (under n vf) (q.stand.fields n) h
 
       no_tag : (n : List ℕ) → same_name n c.0 ≡ false → under n (tag_pair (Some t)) ≡ None
       no_tag n h = tag_under n (Some c) (Some t) q.stand.tag h
 
       -- slots of the case may be looked up before all others
-      case_first : (n : List ℕ) (R : Option Plain) (S : Option Typed) → under n vc ≡ S → first (option_map out (under n vf)) (first (under n (tag_pair (Some t))) (first (option_map out S) R))
-          ≡ first (option_map out S) (first (case_elsewhere n) R)
-      case_first n R None h = sym (first-assoc (option_map out (under n vf)) (under n (tag_pair (Some t))) R)
-      case_first n R (Some w) h =
-          let there : has n ds ≡ true = by (under n ds) (under n vc) (ap is_some h) (case_stand n) in
-          let s = split_or (has n fs) (same_name n c.0) (case_setting.apart n there) in
-          λ i. first (option_map out (no_field n s.0 i)) (first (no_tag n s.1 i) (Some (out w)))
-        where
-          by : (F : Option (Presence × Template)) (S : Option Typed) → is_some S ≡ true → Stands U P F S → is_some F ≡ true
-          by F None k s = absurd (true≢false (sym k))
-          by None (Some x) k s = absurd s
-          by (Some f) (Some x) k s = refl
+      case_first : (gs : List Field) (m : Moving) → Setting U P case_opened case_away (record case_scope { fields = gs }) m → (k : List ℕ)
+          → first (option_map out (under k vf)) (first (under k (tag_pair (Some t))) (first (option_map out (under k m.slots)) (option_map out (under k m.rest)))) ≡ first (option_map out (under k m.slots)) (first (case_elsewhere k) (option_map out (under k m.rest)))
+      case_first gs m a k =
+          let there = stands_there U P (under k gs) (under k m.slots) (a.stand k) in
+          let apart = a.apart k in
+          grind (arith, there, apart, no_field k, no_tag k)
 
       case_map : Mapped case_away case_elsewhere case_moving (pairs_of_record case_value)
       case_map = record {
         ascend = ascends-in_order (pairs_by_list case_value);
         away_alone = λ n h. let s = split_or (has n fs) (same_name n c.0) h in (λ i. first (option_map out (no_field n s.0 i)) (no_tag n s.1 i));
-        at = λ n. under_record case_value n ∙ case_first n (option_map out (under n vr)) (under n vc) refl;
+        at = λ n. under_record case_value n ∙ case_first ds case_moving case_setting n;
       }
 
       -- the record with other fields in that case
@@ -259,7 +230,7 @@ module _ (U : Typed → Type 0) (P : List ℕ → Typed → Type 0) where
             cased_ascend = n.setting.slots_ascend;
             rest_ascend = n.setting.rest_ascend;
             map = same_under (pairs_of_record w) (edit op ds (pairs_of_record case_value)) (ascends-in_order (pairs_by_list w)) n.map.ascend
-                (λ k. under_record w k ∙ (again gs (move op ds case_moving) n.setting k (under k w.cased) refl ∙ sym (n.map.at k)));
+                (λ k. under_record w k ∙ (case_first gs (move op ds case_moving) n.setting k ∙ sym (n.map.at k)));
           }
         where
           rests : (gs : List Field) (m : Moving) → case_of (Some (c.0, put t.1 gs c.1, c.2)) (Some t) ≡ gs → (k : List ℕ) (R : Option Typed) → IsRest U (under k gs) (case_away k) case_opened R
@@ -272,37 +243,26 @@ module _ (U : Typed → Type 0) (P : List ℕ → Typed → Type 0) where
           fields : (gs : List Field) → case_of (Some (c.0, put t.1 gs c.1, c.2)) (Some t) ≡ gs → ((x : List ℕ) → has x gs ≡ true → case_away x ≡ false) → (k : List ℕ) → has k fs ≡ true
               → has_either k (Some (c.0, put t.1 gs c.1, c.2)) (Some t) ≡ false
           fields gs is a k h =
-              let d = distinct_of case_record q.is_record (Some t) in
-              let s = split_or (same_name k c.0) (has k (case_of (Some c) (Some t))) (d.fields k h) in
-              both_false (same_name k c.0) (has k (case_of (Some (c.0, put t.1 gs c.1, c.2)) (Some t))) s.0
-              (ap (has k) is ∙ false_from_ne_true (has k gs) (λ l. true≢false (sym h ∙ (split_or (has k fs) (same_name k c.0) (a k l)).0)))
-
-          again : (gs : List Field) (m : Moving) → Setting U P case_opened case_away (record case_scope { fields = gs }) m → (k : List ℕ) (S : Option Typed) → under k m.slots ≡ S
-              → first (option_map out (under k vf)) (first (under k (tag_pair (Some t))) (first (option_map out S) (option_map out (under k m.rest)))) ≡ first (option_map out S) (first (case_elsewhere k) (option_map out (under k m.rest)))
-          again gs m a k None h = sym (first-assoc (option_map out (under k vf)) (under k (tag_pair (Some t))) (option_map out (under k m.rest)))
-          again gs m a k (Some w) h =
-              let there : has k gs ≡ true = by (under k gs) (under k m.slots) (ap is_some h) (a.stand k) in
-              let s = split_or (has k fs) (same_name k c.0) (a.apart k there) in
-              λ i. first (option_map out (no_field k s.0 i)) (first (no_tag k s.1 i) (Some (out w)))
-            where
-              by : (F : Option (Presence × Template)) (S : Option Typed) → is_some S ≡ true → Stands U P F S → is_some F ≡ true
-              by F None k s = absurd (true≢false (sym k))
-              by None (Some x) k s = absurd s
-              by (Some f) (Some x) k s = refl
+              let d = (distinct_of case_record q.is_record (Some t)).fields k h in
+              let b = a k in
+              grind (arith, d, b, ap (has k) is)
 
     -- ---- another choice in which the tag's case is the same
-    module _ (q : Suits U P case_record case_value) (cs : List template.Case) (l : List ℕ) (same : unwrap_or (under l cs) [] ≡ case_of (Some c) (Some t)) (known : is_some (under l cs) ≡ is_some (under t.1 c.1)) where
+    module _ (q : Suits U P case_record case_value) (cs : List template.Case) (l : List ℕ) (now : under l cs ≡ under t.1 c.1) where
       abbrev with_cases : template.RecordParts
       with_cases = record { fields = fs; choice = Some (c.0, cs, c.2); rest = r }
 
       abbrev with_literal : value.RecordParts
       with_literal = record { fields = vf; tag = Some (t.0, l); cased = vc; rest = vr }
 
+      same : unwrap_or (under l cs) [] ≡ case_of (Some c) (Some t)
+      same = ap (λ (F : Option (List Field)). unwrap_or F []) now
+
       either_same : (k : List ℕ) → has_either k (Some c) (Some t) ≡ has_either k (Some (c.0, cs, c.2)) (Some (t.0, l))
       either_same k = ap (λ ds. same_name k c.0 || has k ds) (sym same)
 
       literal_same : has_literal l (cases_of cs) ≡ has_literal t.1 (cases_of c.1)
-      literal_same = literal_is l cs ∙ known ∙ sym (literal_is t.1 c.1)
+      literal_same = literal_is l cs ∙ ap is_some now ∙ sym (literal_is t.1 c.1)
 
       opened_same : case_opened ≡ opened with_cases (Some (t.0, l))
       opened_same = ap (λ b. is_open r || not b) (sym literal_same)

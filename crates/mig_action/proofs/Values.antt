@@ -1,20 +1,18 @@
 -- What becomes of single values: constants, leaves that are learned, functions on leaves.
-use Rattle.std.proofs.Common.{◌≡◌, Bool, true, false, true≢false, Option, Some, None, refl, sym, ap, subst, ◌∙◌, ◌⊎◌, inl, inr, ℕ, List}
-use Rattle.std.specs.Prelude.{is_some, option_map, option_and_then, if◌then◌else◌}
+use Rattle.std.proofs.Common.{◌≡◌, Bool, true, false, Option, Some, None, refl, sym, ap, subst, ◌∙◌, ◌⊎◌, inl, inr, ℕ, List, arith}
+use Rattle.std.specs.Prelude.{is_some, option_map, option_and_then}
 use Rattle.mig_model.specs.declared.kind.Kind.{Kind}
 use Rattle.mig_model.specs.declared.presence.Presence.{Presence}
 use Rattle.mig_model.specs.declared.presence.Presence.TheVariants.{May}
 use Rattle.mig_model.specs.Plain.{Plain}
 use Rattle.mig_model.specs.Kinds.{kind_of}
 use Rattle.mig_model.specs.Template.{Template, leaf, sum, same_kind, is_leaf}
-use Rattle.mig_model.specs.Const.{Const, const_kind, const_tree}
 use Rattle.mig_model.specs.Fields.{if_so}
-use Rattle.mig_model.specs.Const as model
 use Rattle.mig_model.specs.Leaf.{LeafFn, leaf_out, leaf_value}
 use Rattle.mig_leaf.proofs.KindOut.{value_has_kind, const_has_kind}
-use Rattle.mig_value.specs.Typed.{Typed, atom, list, left, right, rec, point, out}
+use Rattle.mig_value.specs.Typed.{Typed, atom, left, right, point, out}
 use Rattle.mig_value.specs.Leaf.{leaf_of}
-use Rattle.mig_value.specs.Fit.{Fits}
+use Rattle.mig_value.specs.Fit.{ValueFits}
 use Rattle.mig_laws.proofs.Tests.{same_kind_is}
 use Rattle.mig_action.specs.FieldFn.{Fill, constant, empty_list, fill_template, fill_tree}
 use Rattle.mig_action.specs.NewRecord.{learned, can_be_learned, leaf_after, leaf_of_both, common_kind}
@@ -25,20 +23,19 @@ use Rattle.mig_model.proofs.SameNames.{same_kind_itself}
 
 -- ---- if_so
 pub so : {A : Type 0} (b : Bool) (a c : A) → if_so b a ≡ Some c → (b ≡ true) × (a ≡ c)
-so true a c h = (refl, cc)
-so false a c h = absurd (let e : None ≡ Some c = h in cc)
+so b a c h = grind arith
 
 pub mapped : {A B : Type 0} (f : A → B) (o : Option A) (b : B) → option_map f o ≡ Some b → (a : A) × (o ≡ Some a) × (f a ≡ b)
-mapped f None b h = absurd (let e : None ≡ Some b = h in cc)
+mapped f None b h = cc
 mapped f (Some a) b h = (a, refl, cc)
 
 pub then_some : {A B : Type 0} (f : A → Option B) (o : Option A) (b : B) → option_and_then f o ≡ Some b → (a : A) × (o ≡ Some a) × (f a ≡ Some b)
-then_some f None b h = absurd (let e : None ≡ Some b = h in cc)
+then_some f None b h = cc
 then_some f (Some a) b h = (a, refl, h)
 
 -- ---- fills
 
-pub fill_fits : (U : Typed → Type 0) (P : List ℕ → Typed → Type 0) (c : Fill) → Fits U P (fill_template c) (fill_value c)
+pub fill_fits : (U : Typed → Type 0) (P : List ℕ → Typed → Type 0) (c : Fill) → ValueFits U P (fill_template c) (fill_value c)
 fill_fits U P (constant c) = const_has_kind c
 fill_fits U P (empty_list V) = tt
 
@@ -47,29 +44,19 @@ fill_out (constant c) = refl
 fill_out (empty_list V) = refl
 
 -- ---- learned leaves
-atom_leaf : (t u : Plain) (b : Bool) → (if b then Some t else None) ≡ Some u → t ≡ u
-atom_leaf t u true h = cc
-atom_leaf t u false h = absurd (let e : None ≡ Some u = h in cc)
-
 pub leaf_some : (v : Typed) (u : Plain) → leaf_of v ≡ Some u → out v ≡ u
-leaf_some (atom t) u h = atom_leaf t u (is_leaf (kind_of t)) h
-leaf_some (list vs) u h = absurd (let e : None ≡ Some u = h in cc)
+leaf_some (atom t) u h = grind arith
 leaf_some (left v) u h = leaf_some v u h
 leaf_some (right v) u h = leaf_some v u h
-leaf_some (rec fs tag cs rs) u h = absurd (let e : None ≡ Some u = h in cc)
 leaf_some (point n v) u h = leaf_some v u h
-
-no_leaf : (t : Plain) (b : Bool) → (if b then Some t else None) ≡ None → b ≡ false
-no_leaf t true h = absurd (let e : Some t ≡ None = h in cc)
-no_leaf t false h = refl
+leaf_some v u h = cc
 
 pub leaf_none : (v : Typed) → leaf_of v ≡ None → is_leaf (kind_of (out v)) ≡ false
-leaf_none (atom t) h = no_leaf t (is_leaf (kind_of t)) h
-leaf_none (list vs) h = refl
+leaf_none (atom t) h = grind arith
 leaf_none (left v) h = leaf_none v h
 leaf_none (right v) h = leaf_none v h
-leaf_none (rec fs tag cs rs) h = refl
 leaf_none (point n v) h = leaf_none v h
+leaf_none v h = refl
 
 -- what is learned of a value is the tree that was there, or nothing and the tree has another kind
 abbrev pub Learned : Option Kind → Option Typed → Type 0
@@ -79,20 +66,7 @@ pub learned_tree : (k : Option Kind) → can_be_learned k ≡ true → (R : Opti
 learned_tree None h None = inl (refl, refl)
 learned_tree None h (Some v) = inl (refl, refl)
 learned_tree (Some j) h None = inr (refl, refl)
-learned_tree (Some j) h (Some v) = by (leaf_of v) refl
-  where
-    unlike : (b : Bool) → same_kind (kind_of (out v)) j ≡ b → is_leaf (kind_of (out v)) ≡ false → b ≡ false
-    unlike false e k = refl
-    unlike true e k = absurd (true≢false (sym h ∙ (ap is_leaf (sym (same_kind_is (kind_of (out v)) j e)) ∙ k)))
-
-    kept : (u : Plain) → out v ≡ u → (b : Bool) → same_kind (kind_of u) j ≡ b
-        → ((same_kind (kind_of (out v)) j ≡ true) × (option_map out (if_so b (atom u)) ≡ Some (out v))) ⊎ ((same_kind (kind_of (out v)) j ≡ false) × (if_so b (atom u) ≡ None))
-    kept u e true k = inl (ap (λ t. same_kind (kind_of t) j) e ∙ k, ap Some (sym e))
-    kept u e false k = inr (ap (λ t. same_kind (kind_of t) j) e ∙ k, refl)
-
-    by : (l : Option Plain) → leaf_of v ≡ l → ((same_kind (kind_of (out v)) j ≡ true) × (option_map out (leaf_of_kind j l) ≡ Some (out v))) ⊎ ((same_kind (kind_of (out v)) j ≡ false) × (leaf_of_kind j l ≡ None))
-    by None e = inr (unlike (same_kind (kind_of (out v)) j) refl (leaf_none v e), refl)
-    by (Some u) e = kept u (leaf_some v u e) (same_kind (kind_of u) j) refl
+learned_tree (Some j) h (Some v) = let a = leaf_some v in grind (arith, a, leaf_none v, same_kind_is (kind_of (out v)) j)
 
 module _ (U : Typed → Type 0) (P : List ℕ → Typed → Type 0) where
   pub learned_stands : (k : Option Kind) (F : Option (Presence × Template)) (a b : Bool) (R : Option Typed) → IsRest U F a b R → Stands U P (Some (May, learned k)) (option_and_then (learned_value k) R)
@@ -120,45 +94,37 @@ module _ (U : Typed → Type 0) (P : List ℕ → Typed → Type 0) where
   leaf_stands f q (leaf k) W h None s = s
   leaf_stands f q (leaf k) W h (Some (atom t)) s =
       let m = mapped (λ j. leaf j) (leaf_out f k) W h in
-      subst (λ X. Fits U P X (atom (leaf_value f t))) m.2 (leaf_kind_out f t k m.0 s m.1)
+      subst (λ X. ValueFits U P X (atom (leaf_value f t))) m.2 (leaf_kind_out f t k m.0 s m.1)
   leaf_stands f q (leaf k) W h (Some v) s = absurd s
-  leaf_stands f q V W h S s = absurd (let e : None ≡ Some W = h in cc)
+  leaf_stands f q V W h S s = cc
 
-  pub leaf_same : (f : LeafFn) (V W : Template) → leaf_after f V ≡ Some W → (v : Typed) → Fits U P V v → out (at_leaf (leaf_value f) v) ≡ leaf_value f (out v)
+  pub leaf_same : (f : LeafFn) (V W : Template) → leaf_after f V ≡ Some W → (v : Typed) → ValueFits U P V v → out (at_leaf (leaf_value f) v) ≡ leaf_value f (out v)
   leaf_same f (leaf k) W h (atom t) s = refl
   leaf_same f (leaf k) W h v s = absurd s
-  leaf_same f V W h v s = absurd (let e : None ≡ Some W = h in cc)
+  leaf_same f V W h v s = cc
 
   pub both_kinds : (i j : Option Kind) (k : Kind) → common_kind i j ≡ Some k → (i ≡ Some k) × (j ≡ Some k)
-  both_kinds (Some a) (Some b) k h =
-      let s = so (same_kind a b) a k h in
-      (ap Some s.1, ap Some (sym (same_kind_is a b s.0) ∙ s.1))
-  both_kinds None j k h = absurd (let e : None ≡ Some k = h in cc)
-  both_kinds (Some a) None k h = absurd (let e : None ≡ Some k = h in cc)
+  both_kinds (Some a) (Some b) k h = let s = so (same_kind a b) a k h in (ap Some s.1, ap Some (sym (same_kind_is a b s.0) ∙ s.1))
+  both_kinds i j k h = cc
 
   -- whichever of the two functions is taken, the kind is the same
   unified_kind : (f g : LeafFn) (a b j : Kind) (t : Plain) → leaf_out f a ≡ Some j → leaf_out g b ≡ Some j → (kind_of t ≡ a) ⊎ (kind_of t ≡ b) → kind_of (unified f g a t) ≡ j
-  unified_kind f g a b j t h k e = by (same_kind (kind_of t) a) refl e
-    where
-      by : (c : Bool) → same_kind (kind_of t) a ≡ c → (kind_of t ≡ a) ⊎ (kind_of t ≡ b) → kind_of (if c then leaf_value f t else leaf_value g t) ≡ j
-      by true l s = leaf_kind_out f t a j (same_kind_is (kind_of t) a l) h
-      by false l (inl s) = absurd (true≢false (sym (ap (λ x. same_kind x a) s ∙ same_kind_itself a) ∙ l))
-      by false l (inr s) = leaf_kind_out g t b j s k
+  unified_kind f g a b j t h k e = grind (arith, leaf_kind_out f t a j, leaf_kind_out g t b j, same_kind_is (kind_of t) a, same_kind_itself a)
+
+  sum_fits : (f g : LeafFn) (a b : Kind) (W : Template) → leaf_of_both f g (sum (leaf a) (leaf b)) ≡ Some W → (t : Plain) → (kind_of t ≡ a) ⊎ (kind_of t ≡ b) → ValueFits U P W (atom (unified f g a t))
+  sum_fits f g a b W h t e =
+      let m = mapped (λ j. leaf j) (common_kind (leaf_out f a) (leaf_out g b)) W h in
+      let ks = both_kinds (leaf_out f a) (leaf_out g b) m.0 m.1 in
+      subst (λ X. ValueFits U P X (atom (unified f g a t))) m.2 (unified_kind f g a b m.0 t ks.0 ks.1 e)
 
   pub sum_stands : (f g : LeafFn) (q : Presence) (a b : Kind) (W : Template) → leaf_of_both f g (sum (leaf a) (leaf b)) ≡ Some W → (S : Option Typed)
       → Stands U P (Some (q, sum (leaf a) (leaf b))) S → Stands U P (Some (q, W)) (option_map (at_side (unified f g a)) S)
   sum_stands f g q a b W h None s = s
-  sum_stands f g q a b W h (Some (left (atom t))) s =
-      let m = mapped (λ j. leaf j) (common_kind (leaf_out f a) (leaf_out g b)) W h in
-      let ks = both_kinds (leaf_out f a) (leaf_out g b) m.0 m.1 in
-      subst (λ X. Fits U P X (atom (unified f g a t))) m.2 (unified_kind f g a b m.0 t ks.0 ks.1 (inl s))
-  sum_stands f g q a b W h (Some (right (atom t))) s =
-      let m = mapped (λ j. leaf j) (common_kind (leaf_out f a) (leaf_out g b)) W h in
-      let ks = both_kinds (leaf_out f a) (leaf_out g b) m.0 m.1 in
-      subst (λ X. Fits U P X (atom (unified f g a t))) m.2 (unified_kind f g a b m.0 t ks.0 ks.1 (inr s))
+  sum_stands f g q a b W h (Some (left (atom t))) s = sum_fits f g a b W h t (inl s)
+  sum_stands f g q a b W h (Some (right (atom t))) s = sum_fits f g a b W h t (inr s)
   sum_stands f g q a b W h (Some v) s = absurd s
 
-  pub sum_same : (f g : LeafFn) (a b : Kind) (v : Typed) → Fits U P (sum (leaf a) (leaf b)) v → out (at_side (unified f g a) v) ≡ unified f g a (out v)
+  pub sum_same : (f g : LeafFn) (a b : Kind) (v : Typed) → ValueFits U P (sum (leaf a) (leaf b)) v → out (at_side (unified f g a) v) ≡ unified f g a (out v)
   sum_same f g a b (left (atom t)) s = refl
   sum_same f g a b (right (atom t)) s = refl
   sum_same f g a b v s = absurd s

@@ -1,33 +1,29 @@
 -- Every field function: what it does to the parts of a value is what it does to the map, and the new parts are those of the new record.
-use Rattle.std.proofs.Common.{◌≡◌, ℕ, List, [], Bool, true, false, true≢false, Option, Some, None, refl, sym, ap, subst, ◌∙◌}
-use Rattle.std.specs.Prelude.{not, ◌||◌, ◌&&◌, is_some, option_map, option_and_then, unwrap_or, if◌then◌else◌}
-use Rattle.mig_model.specs.declared.presence.Presence.{Presence}
+use Rattle.std.proofs.Common.{◌≡◌, ℕ, List, [], Bool, true, false, true≢false, Option, Some, None, refl, sym, ap, subst, ◌∙◌, arith}
+use Rattle.std.specs.Prelude.{not, ◌||◌, ◌&&◌, option_map, option_and_then, unwrap_or, if◌then◌else◌}
 use Rattle.mig_model.specs.declared.rest.Rest.{Rest}
 use Rattle.mig_model.specs.Plain as plain
 use Rattle.mig_model.specs.Plain.{Plain}
-use Rattle.mig_model.specs.Names.{found}
-use Rattle.mig_model.specs.Template.{Template, Field, cases_of, same_name}
+use Rattle.mig_model.specs.Names.{under, same_name, has, put, put_all, moved}
+use Rattle.mig_model.specs.Template.{Field}
 use Rattle.mig_model.specs.Fields.{is_in_choice}
 use Rattle.mig_model.specs.Inhabits.{has_tag, is_text}
 use Rattle.mig_template.specs.Parts as template
 use Rattle.mig_template.specs.Parts.{choice_of, found_case}
-use Rattle.mig_value.specs.Typed.{Typed, Slot, Tag, out, tag_pair}
-use Rattle.mig_value.specs.Fit.{has_literal}
+use Rattle.mig_value.specs.Typed.{Typed, Slot, Tag, out}
 use Rattle.mig_value.specs.Parts as value
-use Rattle.mig_action.specs.Edits.{under, has, put, put_all, moved}
-use Rattle.mig_action.specs.FieldFn.{Scope, common, in_case, FieldOp, rename, drop, add, learn, forget, default, maybe, map_leaf, nest, unnest, wrap, unify, retag, add_case, FieldFn}
+use Rattle.mig_action.specs.FieldFn.{Scope, common, in_case, FieldOp, retag, add_case, FieldFn}
 use Rattle.mig_action.specs.NewRecord.{scoped, with_fields, new_fields, with_cases, retagged, can_be_case, with_case, new_by, new_record}
 use Rattle.mig_action.specs.Act.{edit, edit_case, act_by, act, with_tag}
-use Rattle.mig_action.specs.Moves.{Moving, move, with_moving, with_moving_case, is_literal, retag_to, apply_by, apply}
+use Rattle.mig_action.specs.Moves.{Moving, move, with_moving, with_moving_case, is_of_case, retag_to, apply_by, apply}
 use Rattle.mig_action.proofs.Edits.{first, same_under, under-put, under-moved, ascends-put}
-use Rattle.mig_action.proofs.Stands.{Stands, case_of, literal_is}
-use Rattle.mig_action.proofs.Settings.{none-there}
+use Rattle.mig_action.proofs.Stands.{none_stands, case_of, literal_is}
 use Rattle.mig_action.proofs.Values.{so, mapped}
 use Rattle.mig_action.proofs.Orders.{pairs_of_record, under_record, ascends-in_order, pairs_by_list}
 use Rattle.mig_action.proofs.Distinct.{distinct_of}
-use Rattle.mig_action.proofs.Scopes.{Suits, Becomes, common_becomes, case_becomes, choice_becomes, stands_none}
+use Rattle.mig_action.proofs.Scopes.{Suits, Becomes, common_becomes, case_becomes, choice_becomes}
 use Rattle.std.proofs.lemmas.Bool.{false_from_ne_true}
-use Rattle.mig_model.proofs.Bools.{split_and, split_or}
+use Rattle.mig_model.proofs.Bools.{split_or}
 use Rattle.mig_model.proofs.SameNames.{same_name_is, same_name_itself}
 
 module _ (U : Typed → Type 0) (P : List ℕ → Typed → Type 0) where
@@ -48,16 +44,13 @@ module _ (U : Typed → Type 0) (P : List ℕ → Typed → Type 0) where
 
     module _ (q : Suits U P p v) where
       tag_no_field : under c.0 vf ≡ None
-      tag_no_field = no_slot (under c.0 fs) (under c.0 vf) (none-there (under c.0 fs) (false_from_ne_true (has c.0 fs) alone)) (q.stand.fields c.0)
+      tag_no_field = none_stands U P (under c.0 fs) (under c.0 vf) (q.stand.fields c.0) (false_from_ne_true (has c.0 fs) alone)
         where
           alone : has c.0 fs ≡ true → ⊥
           alone h = true≢false (sym (same_name_itself c.0) ∙ (split_or (same_name c.0 c.0) (has c.0 (case_of (Some c) (Some t))) ((distinct_of p q.is_record (Some t)).fields c.0 h)).0)
 
-          no_slot : (F : Option (Presence × Template)) (S : Option Typed) → F ≡ None → Stands U P F S → S ≡ None
-          no_slot F S e s = stands_none U P S (subst (λ G. Stands U P G S) e s)
-
       -- the tag of the map
-      tag_there : found c.0 (pairs_of_record v) ≡ Some (plain.text t.1)
+      tag_there : under c.0 (pairs_of_record v) ≡ Some (plain.text t.1)
       tag_there =
           under_record v c.0
           ∙ (λ i. first (option_map out (tag_no_field i)) (first (if here i then Some (plain.text t.1) else None) (first (option_map out (under c.0 vc)) (option_map out (under c.0 vr)))))
@@ -70,11 +63,7 @@ module _ (U : Typed → Type 0) (P : List ℕ → Typed → Type 0) where
 
       -- where no unknown tag is kept, the tag is a literal
       literal_there : c.2 ≡ false → has t.1 c.1 ≡ true
-      literal_there strict = sym (literal_is t.1 c.1) ∙ left_of (has_literal t.1 (cases_of c.1)) (sym (ap (λ b. has_literal t.1 (cases_of c.1) || b) strict) ∙ q.stand.tag.1)
-        where
-          left_of : (b : Bool) → (b || false) ≡ true → b ≡ true
-          left_of true h = refl
-          left_of false h = h
+      literal_there strict = let a = q.stand.tag.1 in grind (arith, strict, a, literal_is t.1 c.1)
 
       -- ---- a function on the fields of a case
       module _ (op : FieldOp) (l : List ℕ) (ds gs : List Field) (new : new_fields op rest (record { fields = ds; taken = λ n. has n fs || same_name n c.0 }) ≡ Some gs) where
@@ -90,11 +79,10 @@ module _ (U : Typed → Type 0) (P : List ℕ → Typed → Type 0) where
 
         other_case : same_name t.1 l ≡ false → Becomes U P r v (pairs_of_record v)
         other_case e =
-            let now : under t.1 (put l gs c.1) ≡ under t.1 c.1 = under-put l gs c.1 t.1 ∙ ap (λ b. if b then Some gs else under t.1 c.1) e in
-            choice_becomes U P fs c rest vf t vc vr q (put l gs c.1) t.1 (ap (λ (F : Option (List Field)). unwrap_or F []) now) (ap is_some now) (pairs_of_record v) refl
+            choice_becomes U P fs c rest vf t vc vr q (put l gs c.1) t.1 (grind (arith, under-put l gs c.1 t.1, e)) (pairs_of_record v) refl
 
         case_at : under l c.1 ≡ Some ds
-            → Becomes U P r (if is_literal l (Some t) then with_moving_case v (move op (unwrap_or (found_case l (Some c)) []) m) else v) (edit_case op l p (Some c) (pairs_of_record v))
+            → Becomes U P r (if is_of_case l (Some t) then with_moving_case v (move op (unwrap_or (found_case l (Some c)) []) m) else v) (edit_case op l p (Some c) (pairs_of_record v))
         case_at k =
             subst (λ es. Becomes U P r (if same_name t.1 l then with_moving_case v (move op (unwrap_or (under l c.1) []) m) else v) es) (ap (λ b. if b then edit op (unwrap_or (under l c.1) []) (pairs_of_record v) else pairs_of_record v) (sym (tag_test l)))
             (by (same_name t.1 l) refl (unwrap_or (under l c.1) []) (ap (λ (F : Option (List Field)). unwrap_or F []) k))
@@ -116,28 +104,16 @@ module _ (U : Typed → Type 0) (P : List ℕ → Typed → Type 0) where
 
         its_tag : same_name t.1 a ≡ true → Becomes U P retagged_record (retagged_value b) (put c.0 (plain.text b) (pairs_of_record v))
         its_tag e =
-            let now : under b (moved a b c.1) ≡ under a c.1 = now_at b ∙ ap (λ x. if x then under a c.1 else (if same_name b a then None else under b c.1)) (same_name_itself b) in
-            let old : under a c.1 ≡ under t.1 c.1 = ap (λ j. under j c.1) (sym (same_name_is t.1 a e)) in
-            choice_becomes U P fs c rest vf t vc vr q (moved a b c.1) b (ap (λ (F : Option (List Field)). unwrap_or F []) (now ∙ old)) (ap is_some (now ∙ old)) (put c.0 (plain.text b) (pairs_of_record v))
-            (same_under (pairs_of_record (retagged_value b)) (put c.0 (plain.text b) (pairs_of_record v)) (ascends-in_order (pairs_by_list (retagged_value b))) (ascends-put c.0 (plain.text b) (pairs_of_record v) (ascends-in_order (pairs_by_list v)))
-            (λ n. under_record (retagged_value b) n ∙ (same n (same_name n c.0) refl ∙ sym (under-put c.0 (plain.text b) (pairs_of_record v) n))))
+            choice_becomes U P fs c rest vf t vc vr q (moved a b c.1) b (grind (arith, now_at b, same_name_itself b, same_name_is t.1 a, e)) (put c.0 (plain.text b) (pairs_of_record v))
+            (same_under (pairs_of_record (retagged_value b)) (put c.0 (plain.text b) (pairs_of_record v)) (ascends-in_order (pairs_by_list (retagged_value b))) (ascends-put c.0 (plain.text b) (pairs_of_record v) (ascends-in_order (pairs_by_list v))) same)
           where
-            same : (n : List ℕ) (x : Bool) → same_name n c.0 ≡ x → first (option_map out (under n vf)) (first (under n (tag_pair (Some (t.0, b)))) (first (option_map out (under n vc)) (option_map out (under n vr))))
-                ≡ (if x then Some (plain.text b) else under n (pairs_of_record v))
-            same n true k =
-                let none : under n vf ≡ None = ap (λ j. under j vf) (same_name_is n c.0 k) ∙ tag_no_field in
-                let here : same_name n t.0 ≡ true = ap (same_name n) q.stand.tag.0 ∙ k in
-                λ i. first (option_map out (none i)) (first (if here i then Some (plain.text b) else None) (first (option_map out (under n vc)) (option_map out (under n vr))))
-            same n false k =
-                let here : same_name n t.0 ≡ false = ap (same_name n) q.stand.tag.0 ∙ k in
-                (λ i. first (option_map out (under n vf)) (first (if here i then Some (plain.text b) else None) (first (option_map out (under n vc)) (option_map out (under n vr)))))
-                ∙ (sym (λ i. first (option_map out (under n vf)) (first (if here i then Some (plain.text t.1) else None) (first (option_map out (under n vc)) (option_map out (under n vr))))) ∙ sym (under_record v n))
+            same : (n : List ℕ) → under n (pairs_of_record (retagged_value b)) ≡ under n (put c.0 (plain.text b) (pairs_of_record v))
+            same n =
+                let tag = q.stand.tag.0 in
+                grind (arith, under_record (retagged_value b) n, under-put c.0 (plain.text b) (pairs_of_record v) n, under_record v n, tag_no_field, tag, same_name_is n c.0)
 
         other_tag : same_name t.1 a ≡ false → Becomes U P retagged_record v (pairs_of_record v)
-        other_tag e =
-            let new : same_name t.1 b ≡ false = false_from_ne_true (same_name t.1 b) (λ k. true≢false (sym (literal_there strict) ∙ (ap (λ j. has j c.1) (same_name_is t.1 b k) ∙ free))) in
-            let now : under t.1 (moved a b c.1) ≡ under t.1 c.1 = now_at t.1 ∙ (λ i. if new i then under a c.1 else (if e i then None else under t.1 c.1)) in
-            choice_becomes U P fs c rest vf t vc vr q (moved a b c.1) t.1 (ap (λ (F : Option (List Field)). unwrap_or F []) now) (ap is_some now) (pairs_of_record v) refl
+        other_tag e = choice_becomes U P fs c rest vf t vc vr q (moved a b c.1) t.1 (grind (arith, literal_there strict, free, same_name_is t.1 b, now_at t.1, e)) (pairs_of_record v) refl
 
         retag_at : Becomes U P retagged_record (record v { tag = Some (retag_to a b t) }) (with_tag a b (Some c) (pairs_of_record v))
         retag_at =
@@ -151,9 +127,7 @@ module _ (U : Typed → Type 0) (P : List ℕ → Typed → Type 0) where
       -- ---- one more case
       one_case_more : (b : List ℕ) (ds : List Field) → c.2 ≡ false → has b c.1 ≡ false → Becomes U P (record { fields = fs; choice = Some (c.0, put b ds c.1, c.2); rest = rest }) v (pairs_of_record v)
       one_case_more b ds strict free =
-          let new : same_name t.1 b ≡ false = false_from_ne_true (same_name t.1 b) (λ k. true≢false (sym (literal_there strict) ∙ (ap (λ j. has j c.1) (same_name_is t.1 b k) ∙ free))) in
-          let now : under t.1 (put b ds c.1) ≡ under t.1 c.1 = under-put b ds c.1 t.1 ∙ ap (λ x. if x then Some ds else under t.1 c.1) new in
-          choice_becomes U P fs c rest vf t vc vr q (put b ds c.1) t.1 (ap (λ (F : Option (List Field)). unwrap_or F []) now) (ap is_some now) (pairs_of_record v) refl
+          choice_becomes U P fs c rest vf t vc vr q (put b ds c.1) t.1 (grind (arith, literal_there strict, free, same_name_is t.1 b, under-put b ds c.1 t.1)) (pairs_of_record v) refl
 
   -- what becomes of a value by a function on the fields of a case
   module _ (op : FieldOp) (l : List ℕ) (fs : List Field) (C : Option template.Cases) (rest : Rest) (vf : List Slot) (T : Option Tag) (vc vr : List Slot) where
@@ -164,93 +138,64 @@ module _ (U : Typed → Type 0) (P : List ℕ → Typed → Type 0) where
     old_value = record { fields = vf; tag = T; cased = vc; rest = vr }
 
     abbrev CaseBecomes : template.RecordParts → Type 0
-    CaseBecomes r = Becomes U P r (if is_literal l T then with_moving_case old_value (move op (unwrap_or (found_case l C) []) (record { slots = vc; rest = vr })) else old_value) (edit_case op l old_record C (pairs_of_record old_value))
+    CaseBecomes r = Becomes U P r (if is_of_case l T then with_moving_case old_value (move op (unwrap_or (found_case l C) []) (record { slots = vc; rest = vr })) else old_value) (edit_case op l old_record C (pairs_of_record old_value))
 
   -- a function on the fields of a case
   case_any : (op : FieldOp) (l : List ℕ) (fs : List Field) (C : Option template.Cases) (rest : Rest) (vf : List Slot) (T : Option Tag) (vc vr : List Slot) (r : template.RecordParts)
       → Suits U P (old_record op l fs C rest vf T vc vr) (old_value op l fs C rest vf T vc vr)
       → option_and_then (λ s. option_map (λ gs. with_fields (in_case l) gs (old_record op l fs C rest vf T vc vr)) (new_fields op rest s)) (scoped (in_case l) (old_record op l fs C rest vf T vc vr)) ≡ Some r
       → CaseBecomes op l fs C rest vf T vc vr r
-  case_any op l fs None rest vf T vc vr r q h = absurd (let e : None ≡ Some r = h in cc)
+  case_any op l fs None rest vf T vc vr r q h = cc
   case_any op l fs (Some c) rest vf None vc vr r q h = absurd q.stand.tag
   case_any op l fs (Some c) rest vf (Some t) vc vr r q h = by (under l c.1) refl h
     where
       by : (F : Option (List Field)) → under l c.1 ≡ F
           → option_and_then (λ s. option_map (λ gs. with_fields (in_case l) gs (old_record op l fs (Some c) rest vf (Some t) vc vr)) (new_fields op rest s)) (option_map (λ ds. record { fields = ds; taken = λ n. has n fs || same_name n c.0 }) F) ≡ Some r
           → CaseBecomes op l fs (Some c) rest vf (Some t) vc vr r
-      by None e k = absurd (let n : None ≡ Some r = k in cc)
+      by None e k = cc
       by (Some ds) e k =
           let a = mapped (λ gs. with_fields (in_case l) gs (old_record op l fs (Some c) rest vf (Some t) vc vr)) (new_fields op rest (record { fields = ds; taken = λ n. has n fs || same_name n c.0 })) r k in
           subst (CaseBecomes op l fs (Some c) rest vf (Some t) vc vr) a.2 (case_at fs c rest vf t vc vr q op l ds a.0 a.1 e)
-
-  not-true : (b : Bool) → not b ≡ true → b ≡ false
-  not-true true h = absurd (true≢false (sym h))
-  not-true false h = refl
 
   -- the two functions on a choice
   choice_any : (a b : List ℕ) (fs : List Field) (C : Option template.Cases) (rest : Rest) (vf : List Slot) (T : Option Tag) (vc vr : List Slot) (r : template.RecordParts)
       → Suits U P (record { fields = fs; choice = C; rest = rest }) (record { fields = vf; tag = T; cased = vc; rest = vr })
       → option_and_then (λ c. option_map (with_cases (record { fields = fs; choice = C; rest = rest })) (retagged a b c)) C ≡ Some r
       → Becomes U P r (record { fields = vf; tag = option_map (retag_to a b) T; cased = vc; rest = vr }) (with_tag a b C (pairs_of_record (record { fields = vf; tag = T; cased = vc; rest = vr })))
-  choice_any a b fs None rest vf T vc vr r q h = absurd (let e : None ≡ Some r = h in cc)
+  choice_any a b fs None rest vf T vc vr r q h = cc
   choice_any a b fs (Some c) rest vf None vc vr r q h = absurd q.stand.tag
   choice_any a b fs (Some c) rest vf (Some t) vc vr r q h =
       let m = mapped (with_cases (record { fields = fs; choice = Some c; rest = rest })) (retagged a b c) r h in
       let s = so (has a c.1 && (not (has b c.1) && not c.2)) (c.0, moved a b c.1, c.2) m.0 m.1 in
-      let k = split_and (has a c.1) (not (has b c.1) && not c.2) s.0 in
-      let l = split_and (not (has b c.1)) (not c.2) k.1 in
+      let e = s.0 in
       subst (λ x. Becomes U P x (record { fields = vf; tag = Some (retag_to a b t); cased = vc; rest = vr }) (with_tag a b (Some c) (pairs_of_record (record { fields = vf; tag = Some t; cased = vc; rest = vr }))))
       (ap (with_cases (record { fields = fs; choice = Some c; rest = rest })) s.1 ∙ m.2)
-      (retag_at fs c rest vf t vc vr q a b (not-true c.2 l.1) k.0 (not-true (has b c.1) l.0))
+      (retag_at fs c rest vf t vc vr q a b (grind (arith, e)) (grind (arith, e)) (grind (arith, e)))
 
   case_more : (b : List ℕ) (gs : List Field) (fs : List Field) (C : Option template.Cases) (rest : Rest) (vf : List Slot) (T : Option Tag) (vc vr : List Slot) (r : template.RecordParts)
       → Suits U P (record { fields = fs; choice = C; rest = rest }) (record { fields = vf; tag = T; cased = vc; rest = vr })
       → option_and_then (λ c. option_map (with_cases (record { fields = fs; choice = C; rest = rest })) (with_case b gs fs c)) C ≡ Some r
       → Becomes U P r (record { fields = vf; tag = T; cased = vc; rest = vr }) (pairs_of_record (record { fields = vf; tag = T; cased = vc; rest = vr }))
-  case_more b gs fs None rest vf T vc vr r q h = absurd (let e : None ≡ Some r = h in cc)
+  case_more b gs fs None rest vf T vc vr r q h = cc
   case_more b gs fs (Some c) rest vf None vc vr r q h = absurd q.stand.tag
   case_more b gs fs (Some c) rest vf (Some t) vc vr r q h =
       let m = mapped (with_cases (record { fields = fs; choice = Some c; rest = rest })) (with_case b gs fs c) r h in
       let s = so (not (has b c.1) && (can_be_case gs fs c && not c.2)) (c.0, put b (put_all gs []) c.1, c.2) m.0 m.1 in
-      let k = split_and (not (has b c.1)) (can_be_case gs fs c && not c.2) s.0 in
-      let l = split_and (can_be_case gs fs c) (not c.2) k.1 in
+      let e = s.0 in
       subst (λ x. Becomes U P x (record { fields = vf; tag = Some t; cased = vc; rest = vr }) (pairs_of_record (record { fields = vf; tag = Some t; cased = vc; rest = vr })))
       (ap (with_cases (record { fields = fs; choice = Some c; rest = rest })) s.1 ∙ m.2)
-      (one_case_more fs c rest vf t vc vr q b (put_all gs []) (not-true c.2 l.1) (not-true (has b c.1) k.0))
+      (one_case_more fs c rest vf t vc vr q b (put_all gs []) (grind (arith, e)) (grind (arith, e)))
 
-  no_new : {A : Type 0} (o : Option A) (p r : template.RecordParts) → option_and_then (λ s. None) o ≡ Some r → ⊥
-  no_new None p r h = let e : None ≡ Some r = h in cc
-  no_new (Some a) p r h = let e : None ≡ Some r = h in cc
+  no_new : {A B : Type 0} (o : Option A) (r : B) → option_and_then (λ s. None) o ≡ Some r → ⊥
+  no_new o r h = grind arith
 
   by_op : (op : FieldOp) (scope : Scope) (p r : template.RecordParts) (v : value.RecordParts) → Suits U P p v → new_by op scope p ≡ Some r → Becomes U P r (apply_by op scope p v) (act_by op scope p (pairs_of_record v))
   by_op (retag a b) common p r v q h = choice_any a b p.fields p.choice p.rest v.fields v.tag v.cased v.rest r q h
-  by_op (retag a b) (in_case l) p r v q h = absurd (no_new (scoped (in_case l) p) p r h)
+  by_op (retag a b) (in_case l) p r v q h = absurd (no_new (scoped (in_case l) p) r h)
   by_op (add_case b gs) common p r v q h = case_more b gs p.fields p.choice p.rest v.fields v.tag v.cased v.rest r q h
-  by_op (add_case b gs) (in_case l) p r v q h = absurd (no_new (scoped (in_case l) p) p r h)
-  by_op (rename x y) common p r v q h = common_any (rename x y) p r v q h
-  by_op (rename x y) (in_case l) p r v q h = case_any (rename x y) l p.fields p.choice p.rest v.fields v.tag v.cased v.rest r q h
-  by_op (drop x) common p r v q h = common_any (drop x) p r v q h
-  by_op (drop x) (in_case l) p r v q h = case_any (drop x) l p.fields p.choice p.rest v.fields v.tag v.cased v.rest r q h
-  by_op (add x c) common p r v q h = common_any (add x c) p r v q h
-  by_op (add x c) (in_case l) p r v q h = case_any (add x c) l p.fields p.choice p.rest v.fields v.tag v.cased v.rest r q h
-  by_op (learn x k) common p r v q h = common_any (learn x k) p r v q h
-  by_op (learn x k) (in_case l) p r v q h = case_any (learn x k) l p.fields p.choice p.rest v.fields v.tag v.cased v.rest r q h
-  by_op (forget x) common p r v q h = common_any (forget x) p r v q h
-  by_op (forget x) (in_case l) p r v q h = case_any (forget x) l p.fields p.choice p.rest v.fields v.tag v.cased v.rest r q h
-  by_op (default x c) common p r v q h = common_any (default x c) p r v q h
-  by_op (default x c) (in_case l) p r v q h = case_any (default x c) l p.fields p.choice p.rest v.fields v.tag v.cased v.rest r q h
-  by_op (maybe x) common p r v q h = common_any (maybe x) p r v q h
-  by_op (maybe x) (in_case l) p r v q h = case_any (maybe x) l p.fields p.choice p.rest v.fields v.tag v.cased v.rest r q h
-  by_op (map_leaf x f) common p r v q h = common_any (map_leaf x f) p r v q h
-  by_op (map_leaf x f) (in_case l) p r v q h = case_any (map_leaf x f) l p.fields p.choice p.rest v.fields v.tag v.cased v.rest r q h
-  by_op (nest xs y) common p r v q h = common_any (nest xs y) p r v q h
-  by_op (nest xs y) (in_case l) p r v q h = case_any (nest xs y) l p.fields p.choice p.rest v.fields v.tag v.cased v.rest r q h
-  by_op (unnest y) common p r v q h = common_any (unnest y) p r v q h
-  by_op (unnest y) (in_case l) p r v q h = case_any (unnest y) l p.fields p.choice p.rest v.fields v.tag v.cased v.rest r q h
-  by_op (wrap x) common p r v q h = common_any (wrap x) p r v q h
-  by_op (wrap x) (in_case l) p r v q h = case_any (wrap x) l p.fields p.choice p.rest v.fields v.tag v.cased v.rest r q h
-  by_op (unify x f g) common p r v q h = common_any (unify x f g) p r v q h
-  by_op (unify x f g) (in_case l) p r v q h = case_any (unify x f g) l p.fields p.choice p.rest v.fields v.tag v.cased v.rest r q h
+  by_op (add_case b gs) (in_case l) p r v q h = absurd (no_new (scoped (in_case l) p) r h)
+  by_op op common p r v q h = common_any op p r v q h
+  by_op op (in_case l) p r v q h = case_any op l p.fields p.choice p.rest v.fields v.tag v.cased v.rest r q h
 
   pub applied : (f : FieldFn) (p r : template.RecordParts) (v : value.RecordParts) → Suits U P p v → new_record f p ≡ Some r → Becomes U P r (apply f p v) (act f p (pairs_of_record v))
   applied f p r v q h = by_op f.op f.scope p r v q h

@@ -10,9 +10,9 @@ use Rattle.mig_model.specs.Template.{leaf, sum, Field, same_kind}
 use Rattle.mig_model.specs.Inhabits.{Entries, has_tag}
 use Rattle.mig_model.specs.Leaf.{LeafFn, leaf_value}
 use Rattle.mig_template.specs.Parts.{RecordParts, Cases, found_case}
-use Rattle.mig_action.specs.Edits.{under, has, without, put, put_all, moved, those, others, changed}
+use Rattle.mig_model.specs.Names.{under, has, without, put, put_all, moved, those, others, changed}
 use Rattle.mig_action.specs.FieldFn.{Scope, common, in_case, fill_tree, FieldOp, rename, drop, add, learn, forget, default, maybe, map_leaf, nest, unnest, wrap, unify, retag, add_case, FieldFn}
-use Rattle.mig_action.specs.NewRecord.{Slot, inner_fields}
+use Rattle.mig_action.specs.NewRecord.{FieldType, inner_fields}
 
 -- there is a tree of the kind; None asks for nothing
 abbrev pub is_learned : Option Kind → Option Plain → Bool
@@ -26,12 +26,12 @@ pairs_in (Some (plain.map ps)) = entries ps
 pairs_in o = []
 
 -- the names that the record under a field declares
-abbrev pub inner_names : Option Slot → List (List ℕ)
+abbrev pub inner_names : Option FieldType → List (List ℕ)
 inner_names None = []
 inner_names (Some s) = keys_of (unwrap_or (inner_fields s.1) [])
 
 -- the kind of the left side
-abbrev pub left_kind : Option Slot → Kind
+abbrev pub left_kind : Option FieldType → Kind
 left_kind (Some (p, sum (leaf a) W)) = a
 left_kind s = K.Null
 

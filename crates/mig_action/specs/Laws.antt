@@ -8,9 +8,9 @@ use Rattle.mig_template.specs.Parts as template
 use Rattle.mig_template.specs.Kept as template_kept
 use Rattle.mig_value.specs.Typed.{out}
 use Rattle.mig_value.specs.Parts as value
-use Rattle.mig_value.specs.Parts.{IsRecord}
+use Rattle.mig_value.specs.Parts.{IsRecordValue}
 use Rattle.mig_value.specs.Kept as value_kept
-use Rattle.mig_value.specs.Fit.{Fits, Shape, Fit, IsOfForm}
+use Rattle.mig_value.specs.Fit.{ValueFits, Shape, Fit, IsOfForm}
 use Rattle.mig_action.specs.FieldFn.{FieldFn}
 use Rattle.mig_action.specs.NewRecord.{new_record}
 use Rattle.mig_action.specs.Act.{act}
@@ -22,7 +22,7 @@ use Rattle.mig_value.specs.Nodes.{Test, nodes}
 pub record Applies (f : FieldFn) (p r : template.RecordParts) (v : value.RecordParts) : Type 0 where
   pub fits : new_record f p ≡ Some r
   pub record_kept : template_kept.RecordKept p
-  pub value_kept : value_kept.RecordKept v
+  pub value_kept : value_kept.RecordValueKept v
   pub shape : Shape (template.record_of p) (value.record_of v)
 
 -- a law of every function at every value that it applies to
@@ -40,8 +40,8 @@ ShapeStays = Always (λ f p r v. Shape (template.record_of r) (value.record_of (
 -- in every family in which the value fits, and whose form its tree has, the answer fits the new record
 abbrev pub FitStays : Type 0
 FitStays = Always (λ f p r v.
-    (form : Form) (body : List ℕ → Template) → Fits (IsOfForm form) (Fit form body) (template.record_of p) (value.record_of v) → IsOfForm form (value.record_of v)
-    → Fits (IsOfForm form) (Fit form body) (template.record_of r) (value.record_of (apply f p v)))
+    (form : Form) (body : List ℕ → Template) → ValueFits (IsOfForm form) (Fit form body) (template.record_of p) (value.record_of v) → IsOfForm form (value.record_of v)
+    → ValueFits (IsOfForm form) (Fit form body) (template.record_of r) (value.record_of (apply f p v)))
 
 -- each node that stands at a point of the answer stood at a point of the value
 abbrev pub NodesStay : Type 0
@@ -53,4 +53,4 @@ NoMoreNodes = Always (λ f p r v. (q : Test) → nodes q (value.record_of (apply
 
 -- no two names of the answer are equal, and its lists ascend
 abbrev pub PartsStay : Type 0
-PartsStay = Always (λ f p r v. IsRecord (apply f p v))
+PartsStay = Always (λ f p r v. IsRecordValue (apply f p v))

@@ -1,4 +1,3 @@
-pub mod Edits
 pub mod SameTemplate
 pub mod FieldFn
 pub mod NewRecord

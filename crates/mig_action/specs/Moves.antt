@@ -3,7 +3,8 @@ use Rattle.std.specs.Prelude.{ℕ, List, [], Bool, false, Option, Some, None, op
 use Rattle.mig_model.specs.declared.kind.Kind.{Kind}
 use Rattle.mig_model.specs.Plain.{Plain}
 use Rattle.mig_model.specs.Kinds.{kind_of}
-use Rattle.mig_model.specs.Template.{Field, same_kind, same_name}
+use Rattle.mig_model.specs.Template.{Field, same_kind}
+use Rattle.mig_model.specs.Names.{same_name, under, has, without, put, bring, put_all, moved, those, others, changed}
 use Rattle.mig_model.specs.Fields.{if_so}
 use Rattle.mig_model.specs.Leaf.{leaf_value}
 use Rattle.mig_template.specs.Parts as template
@@ -11,7 +12,6 @@ use Rattle.mig_template.specs.Parts.{found_case}
 use Rattle.mig_value.specs.Typed.{Typed, atom, list, left, right, rec, Slot, Tag, no_item, item, no_slot, slots, slots_of}
 use Rattle.mig_value.specs.Parts.{RecordParts}
 use Rattle.mig_value.specs.Leaf.{leaf_of}
-use Rattle.mig_action.specs.Edits.{under, has, without, put, bring, put_all, moved, those, others, changed}
 use Rattle.mig_action.specs.FieldFn.{Scope, common, in_case, Fill, constant, empty_list, fill_tree, FieldOp, rename, drop, add, learn, forget, default, maybe, map_leaf, nest, unnest, wrap, unify, retag, add_case, FieldFn}
 use Rattle.mig_action.specs.Act.{inner_names, left_kind, unified}
 
@@ -80,15 +80,15 @@ with_moving v m = record v { fields = m.slots; rest = m.rest }
 abbrev pub with_moving_case : RecordParts → Moving → RecordParts
 with_moving_case v m = record v { cased = m.slots; rest = m.rest }
 
-abbrev pub is_literal : List ℕ → Option Tag → Bool
-is_literal l None = false
-is_literal l (Some t) = same_name t.1 l
+abbrev pub is_of_case : List ℕ → Option Tag → Bool
+is_of_case l None = false
+is_of_case l (Some t) = same_name t.1 l
 
 -- in a case, a record of another case stays
 abbrev pub apply_by : FieldOp → Scope → template.RecordParts → RecordParts → RecordParts
 apply_by (retag a b) scope p v = record v { tag = option_map (retag_to a b) v.tag }
 apply_by op common p v = with_moving v (move op p.fields (record { slots = v.fields; rest = v.rest }))
-apply_by op (in_case l) p v = if is_literal l v.tag then with_moving_case v (move op (unwrap_or (found_case l p.choice) []) (record { slots = v.cased; rest = v.rest })) else v
+apply_by op (in_case l) p v = if is_of_case l v.tag then with_moving_case v (move op (unwrap_or (found_case l p.choice) []) (record { slots = v.cased; rest = v.rest })) else v
 
 -- what the function does to the parts of a record value of the record
 abbrev pub apply : FieldFn → template.RecordParts → RecordParts → RecordParts

@@ -8,13 +8,13 @@ use Rattle.mig_model.specs.declared.presence.Presence.{Presence}
 use Rattle.mig_model.specs.declared.presence.Presence.TheVariants.{Must, May}
 use Rattle.mig_model.specs.declared.rest.Rest.{Rest}
 use Rattle.mig_model.specs.declared.rest.Rest.TheVariants.{Open}
-use Rattle.mig_model.specs.Template.{Template, leaf, any, list, rec, sum, Field, fields_of, field_list, no_choice, same_name, same_kind, is_leaf, is_must, is_open}
+use Rattle.mig_model.specs.Template.{Template, leaf, any, list, rec, sum, Field, fields_of, field_list, no_choice, same_kind, is_leaf, is_must, is_open}
+use Rattle.mig_model.specs.Names.{same_name, has_twice, is_among, under, has, without, put, put_all, moved, those, others}
 use Rattle.mig_model.specs.Fields.{is_in_choice}
 use Rattle.mig_model.specs.Fields.{if_so}
 use Rattle.mig_model.specs.Leaf.{LeafFn, leaf_out}
-use Rattle.mig_model.specs.Family.{has_twice, any_inside, has_point_side, sides_overlap}
-use Rattle.mig_template.specs.Parts.{RecordParts, Cases, choice_of, found_case, is_among}
-use Rattle.mig_action.specs.Edits.{under, has, without, put, put_all, moved, those, others}
+use Rattle.mig_model.specs.Family.{any_inside, has_point_side, sides_overlap}
+use Rattle.mig_template.specs.Parts.{RecordParts, Cases, choice_of, found_case}
 use Rattle.mig_action.specs.SameTemplate.{same_template}
 use Rattle.mig_action.specs.FieldFn.{Scope, common, in_case, Fill, fill_template, FieldOp, rename, drop, add, learn, forget, default, maybe, map_leaf, nest, unnest, wrap, unify, retag, add_case, FieldFn}
 
@@ -59,13 +59,13 @@ learned None = any
 learned (Some k) = leaf k
 
 -- what becomes of a single field, or none where the function doesn't fit it
-abbrev pub Slot : Type 0
-Slot = Presence × Template
+abbrev pub FieldType : Type 0
+FieldType = Presence × Template
 
-abbrev pub filled : Fill → Slot → Option Slot
+abbrev pub filled : Fill → FieldType → Option FieldType
 filled c s = if_so (not (is_must s.0) && same_template s.1 (fill_template c)) (Must, s.1)
 
-abbrev pub lessened : Slot → Option Slot
+abbrev pub lessened : FieldType → Option FieldType
 lessened s = if_so (is_must s.0) (May, s.1)
 
 abbrev pub leaf_after : LeafFn → Template → Option Template
@@ -81,11 +81,11 @@ abbrev pub leaf_of_both : LeafFn → LeafFn → Template → Option Template
 leaf_of_both f g (sum (leaf a) (leaf b)) = option_map (λ j. leaf j) (common_kind (leaf_out f a) (leaf_out g b))
 leaf_of_both f g V = None
 
-abbrev pub with_template : (Template → Option Template) → Slot → Option Slot
+abbrev pub with_template : (Template → Option Template) → FieldType → Option FieldType
 with_template f s = option_map (λ W. (s.0, W)) (f s.1)
 
 -- the fields with that done to the one of a name
-abbrev pub at_field : List ℕ → (Slot → Option Slot) → List Field → Option (List Field)
+abbrev pub at_field : List ℕ → (FieldType → Option FieldType) → List Field → Option (List Field)
 at_field x f fs = option_and_then (λ s. option_map (λ t. put x t fs) (f s)) (under x fs)
 
 -- the fields of a record without a choice

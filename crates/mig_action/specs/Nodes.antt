@@ -1,7 +1,8 @@
 -- Which nodes of a value stand at points of a template.
 use Rattle.std.specs.Prelude.{ℕ, List, [], ◌∷◌, ◌++◌, Option, Some, if◌then◌else◌}
 use Rattle.mig_model.specs.Template as template
-use Rattle.mig_model.specs.Template.{Template, Fields, no_field, field, Choice, no_choice, choice, Cases, no_case, case, same_name}
+use Rattle.mig_model.specs.Template.{Template, Fields, no_field, field, Choice, no_choice, choice, Cases, no_case, case}
+use Rattle.mig_model.specs.Names.{same_name}
 use Rattle.mig_value.specs.Typed.{Typed, list, left, right, rec, point, Items, no_item, item, Slots, no_slot, slot, Tag}
 use Rattle.mig_value.specs.Parts.{NodeParts}
 

@@ -4,7 +4,8 @@ use Rattle.mig_model.specs.declared.presence.Presence.{Presence}
 use Rattle.mig_model.specs.declared.presence.Presence.TheVariants.{Must, May}
 use Rattle.mig_model.specs.declared.rest.Rest.{Rest}
 use Rattle.mig_model.specs.declared.rest.Rest.TheVariants.{Open, Closed}
-use Rattle.mig_model.specs.Template.{Template, leaf, any, list, point, rec, sum, Fields, no_field, field, Choice, no_choice, choice, Cases, no_case, case, same_name, same_kind}
+use Rattle.mig_model.specs.Template.{Template, leaf, any, list, point, rec, sum, Fields, no_field, field, Choice, no_choice, choice, Cases, no_case, case, same_kind}
+use Rattle.mig_model.specs.Names.{same_name}
 
 abbrev pub same_presence : Presence → Presence → Bool
 same_presence Must Must = true

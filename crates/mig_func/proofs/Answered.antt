@@ -10,7 +10,7 @@ use Rattle.mig_template.specs.Kept as template_kept
 use Rattle.mig_value.specs.Typed.{Typed, out}
 use Rattle.mig_value.specs.Parts as value
 use Rattle.mig_value.specs.Kept as value_kept
-use Rattle.mig_value.specs.Fit.{Fits, Shape, Fit, IsOfForm}
+use Rattle.mig_value.specs.Fit.{ValueFits, Shape, Fit, IsOfForm}
 use Rattle.mig_action.specs.FieldFn.{FieldFn}
 use Rattle.mig_action.specs.NewRecord.{new_record}
 use Rattle.mig_action.specs.Act.{act}
@@ -19,10 +19,10 @@ use Rattle.mig_action.specs.Nodes.{nodes_at}
 use Rattle.mig_value.specs.Nodes.{Test, nodes}
 use Rattle.mig_action.specs.Laws.{Applies}
 use Rattle.mig_action.proofs.Laws.{tree_acts, shape_stays, fit_stays, nodes_stay, no_more_nodes}
-use Rattle.mig_action.proofs.Settings.{some-there}
+use Rattle.mig_action.proofs.Edits.{some-there}
 
 module _ (f : FieldFn) (p : template.RecordParts) (u : Typed) (v w : value.RecordParts) (is : u ≡ value.record_of v) (became : w ≡ apply f p v)
-    (record_kept : template_kept.RecordKept p) (value_kept : value_kept.RecordKept v) (shape : Shape (template.record_of p) u) where
+    (record_kept : template_kept.RecordKept p) (value_kept : value_kept.RecordValueKept v) (shape : Shape (template.record_of p) u) where
   -- what holds of the parts holds of the value and of what came back
   along : (T : Typed → Typed → Type 0) → T (value.record_of v) (value.record_of (apply f p v)) → T u (value.record_of w)
   along T t = subst (λ x. T x (value.record_of w)) (sym is) (subst (λ x. T (value.record_of v) (value.record_of x)) (sym became) t)
@@ -36,10 +36,10 @@ module _ (f : FieldFn) (p : template.RecordParts) (u : Typed) (v w : value.Recor
   pub shape_is : (r : template.RecordParts) → new_record f p ≡ Some r → Shape (template.record_of r) (value.record_of w)
   shape_is r e = along (λ x y. Shape (template.record_of r) y) (shape_stays f p r v (applies r e))
 
-  pub fit_is : (r : template.RecordParts) → new_record f p ≡ Some r → (form : Form) (body : List ℕ → Template) → Fits (IsOfForm form) (Fit form body) (template.record_of p) u → IsOfForm form u
-      → Fits (IsOfForm form) (Fit form body) (template.record_of r) (value.record_of w)
+  pub fit_is : (r : template.RecordParts) → new_record f p ≡ Some r → (form : Form) (body : List ℕ → Template) → ValueFits (IsOfForm form) (Fit form body) (template.record_of p) u → IsOfForm form u
+      → ValueFits (IsOfForm form) (Fit form body) (template.record_of r) (value.record_of w)
   fit_is r e form body =
-      along (λ x y. Fits (IsOfForm form) (Fit form body) (template.record_of p) x → IsOfForm form x → Fits (IsOfForm form) (Fit form body) (template.record_of r) y) (fit_stays f p r v (applies r e) form body)
+      along (λ x y. ValueFits (IsOfForm form) (Fit form body) (template.record_of p) x → IsOfForm form x → ValueFits (IsOfForm form) (Fit form body) (template.record_of r) y) (fit_stays f p r v (applies r e) form body)
 
   pub nodes_are : (r : template.RecordParts) → new_record f p ≡ Some r → AllByRecursion (Contains (nodes_at (template.record_of p) u)) (nodes_at (template.record_of r) (value.record_of w))
   nodes_are r e = along (λ x y. AllByRecursion (Contains (nodes_at (template.record_of p) x)) (nodes_at (template.record_of r) y)) (nodes_stay f p r v (applies r e))

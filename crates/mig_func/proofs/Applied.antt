@@ -1,5 +1,5 @@
 -- The parts of a record value after a function are those that its law speaks of.
-use Rattle.std.proofs.Common.{◌≡◌, ℕ, List, [], true, false, true≢false, Option, Some, None, refl, sym, ap, subst, ◌∙◌}
+use Rattle.std.proofs.Common.{◌≡◌, ℕ, List, [], true, false, true≢false, Option, Some, None, refl, sym, ap, subst, ◌∙◌, arith}
 use Rattle.std.specs.Prelude.{◌||◌, is_some, option_map, option_and_then, unwrap_or, if◌then◌else◌}
 use Rattle.mig_model.specs.Template.{Field}
 use Rattle.mig_model.specs.Fields.{is_in_choice}
@@ -7,16 +7,16 @@ use Rattle.mig_template.specs.Parts as template
 use Rattle.mig_template.specs.Parts.{choice_of, found_case}
 use Rattle.mig_value.specs.Typed.{Tag}
 use Rattle.mig_value.specs.Parts as value
-use Rattle.mig_value.specs.Parts.{IsRecord}
-use Rattle.mig_action.specs.Edits.{under, has}
-use Rattle.mig_action.specs.FieldFn.{Scope, common, in_case, FieldOp, rename, drop, add, learn, forget, default, maybe, map_leaf, nest, unnest, wrap, unify, retag, add_case}
+use Rattle.mig_value.specs.Parts.{IsRecordValue}
+use Rattle.mig_model.specs.Names.{under, has}
+use Rattle.mig_action.specs.FieldFn.{Scope, common, in_case, FieldOp, map_leaf, unnest, unify, retag}
 use Rattle.mig_action.specs.NewRecord.{Scoped, is_tag, scoped, with_fields, new_fields, new_by}
 use Rattle.mig_template.specs.Kept as template_kept
 use Rattle.mig_value.specs.Kept as value_kept
 use Rattle.mig_value.specs.Fit.{Shape}
 use Rattle.mig_action.proofs.Laws.{parts_stay}
-use Rattle.mig_action.proofs.Settings.{some-there}
-use Rattle.mig_action.specs.Moves.{Moving, is_literal, apply_by}
+use Rattle.mig_action.proofs.Edits.{some-there}
+use Rattle.mig_action.specs.Moves.{Moving, is_of_case, apply_by}
 use Rattle.mig_action.specs.Laws.{Applies}
 use Rattle.mig_action.proofs.Stands.{Stands, RecordStands, fits_stand, case_of}
 use Rattle.mig_action.proofs.Values.{mapped, then_some}
@@ -26,20 +26,8 @@ use Rattle.mig_model.proofs.SameNames.{same_name_is}
 
 -- ---- a function on the common fields
 pub common_is : (op : FieldOp) (p : template.RecordParts) (v : value.RecordParts) → common_after op p.fields v ≡ apply_by op common p v
-common_is (rename x y) p v = refl
-common_is (drop x) p v = refl
-common_is (add x c) p v = refl
-common_is (learn x k) p v = refl
-common_is (forget x) p v = refl
-common_is (default x c) p v = refl
-common_is (maybe x) p v = refl
-common_is (map_leaf x f) p v = refl
-common_is (nest xs y) p v = refl
-common_is (unnest y) p v = refl
-common_is (wrap x) p v = refl
-common_is (unify x f g) p v = refl
 common_is (retag a b) p v = refl
-common_is (add_case b gs) p v = refl
+common_is op p v = refl
 
 abbrev common_scope : template.RecordParts → Scoped
 common_scope p = record { fields = p.fields; taken = λ n. is_in_choice n (choice_of p.choice) }
@@ -50,53 +38,30 @@ any_ready op p r v s h =
     ready (common_scope p) (in_common v) s.fields op m.0 p.rest m.1
 
 pub common_ready : (op : FieldOp) (p r : template.RecordParts) (v : value.RecordParts) → RecordStands Whatever Anything p v → new_by op common p ≡ Some r → IsReady op p.fields (in_common v)
-common_ready (rename x y) p r v s h = tt
-common_ready (drop x) p r v s h = tt
-common_ready (add x c) p r v s h = tt
-common_ready (learn x k) p r v s h = tt
-common_ready (forget x) p r v s h = tt
-common_ready (default x c) p r v s h = tt
-common_ready (maybe x) p r v s h = tt
 common_ready (map_leaf x f) p r v s h = any_ready (map_leaf x f) p r v s h
-common_ready (nest xs y) p r v s h = tt
 common_ready (unnest y) p r v s h = any_ready (unnest y) p r v s h
-common_ready (wrap x) p r v s h = tt
 common_ready (unify x f g) p r v s h = any_ready (unify x f g) p r v s h
-common_ready (retag a b) p r v s h = tt
-common_ready (add_case b gs) p r v s h = tt
+common_ready op p r v s h = tt
 
 -- ---- a function on the fields of a case
 no_retag : {A : Type 0} (o : Option A) (r : template.RecordParts) → option_and_then (λ s. None) o ≡ Some r → ⊥
-no_retag None r h = let e : None ≡ Some r = h in cc
-no_retag (Some a) r h = let e : None ≡ Some r = h in cc
+no_retag o r h = grind arith
 
 abbrev case_fields : List ℕ → template.RecordParts → List Field
 case_fields l p = unwrap_or (found_case l p.choice) []
 
-pub case_is : (op : FieldOp) (l : List ℕ) (p r : template.RecordParts) (v : value.RecordParts) → new_by op (in_case l) p ≡ Some r → (if is_literal l v.tag then cased_after op (case_fields l p) v else v) ≡ apply_by op (in_case l) p v
-case_is (rename x y) l p r v h = refl
-case_is (drop x) l p r v h = refl
-case_is (add x c) l p r v h = refl
-case_is (learn x k) l p r v h = refl
-case_is (forget x) l p r v h = refl
-case_is (default x c) l p r v h = refl
-case_is (maybe x) l p r v h = refl
-case_is (map_leaf x f) l p r v h = refl
-case_is (nest xs y) l p r v h = refl
-case_is (unnest y) l p r v h = refl
-case_is (wrap x) l p r v h = refl
-case_is (unify x f g) l p r v h = refl
+pub case_is : (op : FieldOp) (l : List ℕ) (p r : template.RecordParts) (v : value.RecordParts) → new_by op (in_case l) p ≡ Some r → (if is_of_case l v.tag then cased_after op (case_fields l p) v else v) ≡ apply_by op (in_case l) p v
 case_is (retag a b) l p r v h = absurd (no_retag (scoped (in_case l) p) r h)
-case_is (add_case b gs) l p r v h = refl
+case_is op l p r v h = refl
 
-any_case_ready : (op : FieldOp) (l : List ℕ) (p r : template.RecordParts) (v : value.RecordParts) → RecordStands Whatever Anything p v → is_literal l v.tag ≡ true
+any_case_ready : (op : FieldOp) (l : List ℕ) (p r : template.RecordParts) (v : value.RecordParts) → RecordStands Whatever Anything p v → is_of_case l v.tag ≡ true
     → option_and_then (λ s. option_map (λ gs. with_fields (in_case l) gs p) (new_fields op p.rest s)) (scoped (in_case l) p) ≡ Some r → IsReady op (case_fields l p) (in_cased v)
 any_case_ready op l p r v s t h =
     let a = then_some (λ s. option_map (λ gs. with_fields (in_case l) gs p) (new_fields op p.rest s)) (scoped (in_case l) p) r h in
     let b = mapped (λ (ds : List Field). record { fields = ds; taken = λ n. has n p.fields || is_tag n p.choice }) (found_case l p.choice) a.0 a.1 in
     by v.tag t s.cased a.0 b.0 b.1 b.2 (mapped (λ gs. with_fields (in_case l) gs p) (new_fields op p.rest a.0) r a.2)
   where
-    by : (T : Option Tag) → is_literal l T ≡ true → ((n : List ℕ) → Stands Whatever Anything (under n (case_of p.choice T)) (under n v.cased))
+    by : (T : Option Tag) → is_of_case l T ≡ true → ((n : List ℕ) → Stands Whatever Anything (under n (case_of p.choice T)) (under n v.cased))
         → (c : Scoped) (ds : List Field) → found_case l p.choice ≡ Some ds → ◌≡◌ {A = Scoped} (record { fields = ds; taken = λ n. has n p.fields || is_tag n p.choice }) c
         → (gs : List Field) × (new_fields op p.rest c ≡ Some gs) × (with_fields (in_case l) gs p ≡ r) → IsReady op (case_fields l p) (in_cased v)
     by None k f c ds e is m = absurd (true≢false (sym k))
@@ -107,27 +72,17 @@ any_case_ready op l p r v s t h =
         subst (λ fs. IsReady op fs (in_cased v)) same
         (ready d (in_cased v) (λ n. subst (λ fs. Stands Whatever Anything (under n fs) (under n v.cased)) at (f n)) op m.0 p.rest (ap (new_fields op p.rest) is ∙ m.1))
 
-pub case_ready : (op : FieldOp) (l : List ℕ) (p r : template.RecordParts) (v : value.RecordParts) → RecordStands Whatever Anything p v → is_literal l v.tag ≡ true → new_by op (in_case l) p ≡ Some r → IsReady op (case_fields l p) (in_cased v)
-case_ready (rename x y) l p r v s t h = tt
-case_ready (drop x) l p r v s t h = tt
-case_ready (add x c) l p r v s t h = tt
-case_ready (learn x k) l p r v s t h = tt
-case_ready (forget x) l p r v s t h = tt
-case_ready (default x c) l p r v s t h = tt
-case_ready (maybe x) l p r v s t h = tt
+pub case_ready : (op : FieldOp) (l : List ℕ) (p r : template.RecordParts) (v : value.RecordParts) → RecordStands Whatever Anything p v → is_of_case l v.tag ≡ true → new_by op (in_case l) p ≡ Some r → IsReady op (case_fields l p) (in_cased v)
 case_ready (map_leaf x f) l p r v s t h = any_case_ready (map_leaf x f) l p r v s t h
-case_ready (nest xs y) l p r v s t h = tt
 case_ready (unnest y) l p r v s t h = any_case_ready (unnest y) l p r v s t h
-case_ready (wrap x) l p r v s t h = tt
 case_ready (unify x f g) l p r v s t h = any_case_ready (unify x f g) l p r v s t h
-case_ready (retag a b) l p r v s t h = tt
-case_ready (add_case b gs) l p r v s t h = tt
+case_ready op l p r v s t h = tt
 
 -- ---- what the code needs, and what it has made
 pub record Known (op : FieldOp) (s : Scope) (p : template.RecordParts) (v : value.RecordParts) : Type 0 where
   pub fits : is_some (new_by op s p) ≡ true
   pub record_kept : template_kept.RecordKept p
-  pub value_kept : value_kept.RecordKept v
+  pub value_kept : value_kept.RecordValueKept v
   pub shape : Shape (template.record_of p) (value.record_of v)
 
 applies : (op : FieldOp) (s : Scope) (p : template.RecordParts) (v : value.RecordParts) → Known op s p v → (r : template.RecordParts) × Applies (record { scope = s; op = op }) p r v
@@ -137,7 +92,7 @@ applies op s p v k =
 
 pub record Facts (op : FieldOp) (s : Scope) (p : template.RecordParts) (v : value.RecordParts) (fs : List Field) (m : Moving) (after : value.RecordParts) : Type 0 where
   pub ready : IsReady op fs m
-  pub parts : IsRecord after
+  pub parts : IsRecordValue after
   pub same : after ≡ apply_by op s p v
 
 common_at : (op : FieldOp) (p : template.RecordParts) (v : value.RecordParts) → Known op common p v → Facts op common p v p.fields (in_common v) (common_after op p.fields v)
@@ -145,7 +100,7 @@ common_at op p v k =
     let a = applies op common p v k in
     record {
       ready = common_ready op p a.0 v (fits_stand Whatever Anything p v k.shape) a.1.fits;
-      parts = subst IsRecord (sym (common_is op p v)) (parts_stay (record { scope = common; op = op }) p a.0 v a.1);
+      parts = subst IsRecordValue (sym (common_is op p v)) (parts_stay (record { scope = common; op = op }) p a.0 v a.1);
       same = common_is op p v;
     }
 
@@ -155,18 +110,18 @@ common_facts op s p v fs e f k =
     (subst (λ l. Facts op common p v l (in_common v) (common_after op l v)) (sym f)
     (common_at op p v (subst (λ z. Known op z p v) e k)))
 
-cased_at : (op : FieldOp) (l : List ℕ) (p : template.RecordParts) (v : value.RecordParts) → is_literal l v.tag ≡ true → Known op (in_case l) p v → Facts op (in_case l) p v (case_fields l p) (in_cased v) (cased_after op (case_fields l p) v)
+cased_at : (op : FieldOp) (l : List ℕ) (p : template.RecordParts) (v : value.RecordParts) → is_of_case l v.tag ≡ true → Known op (in_case l) p v → Facts op (in_case l) p v (case_fields l p) (in_cased v) (cased_after op (case_fields l p) v)
 cased_at op l p v t k =
     let a = applies op (in_case l) p v k in
     let is : cased_after op (case_fields l p) v ≡ apply_by op (in_case l) p v =
     sym (ap (λ b. if b then cased_after op (case_fields l p) v else v) t) ∙ case_is op l p a.0 v a.1.fits in
     record {
       ready = case_ready op l p a.0 v (fits_stand Whatever Anything p v k.shape) t a.1.fits;
-      parts = subst IsRecord (sym is) (parts_stay (record { scope = in_case l; op = op }) p a.0 v a.1);
+      parts = subst IsRecordValue (sym is) (parts_stay (record { scope = in_case l; op = op }) p a.0 v a.1);
       same = is;
     }
 
-pub cased_facts : (op : FieldOp) (s : Scope) (l : List ℕ) (p : template.RecordParts) (v : value.RecordParts) (fs : List Field) → s ≡ in_case l → is_literal l v.tag ≡ true → Some fs ≡ found_case l p.choice → Known op s p v
+pub cased_facts : (op : FieldOp) (s : Scope) (l : List ℕ) (p : template.RecordParts) (v : value.RecordParts) (fs : List Field) → s ≡ in_case l → is_of_case l v.tag ≡ true → Some fs ≡ found_case l p.choice → Known op s p v
     → Facts op s p v fs (in_cased v) (cased_after op fs v)
 cased_facts op s l p v fs e t f k =
     subst (λ z. Facts op z p v fs (in_cased v) (cased_after op fs v)) (sym e)
@@ -174,7 +129,7 @@ cased_facts op s l p v fs e t f k =
     (cased_at op l p v t (subst (λ z. Known op z p v) e k)))
 
 -- a record of another case stays
-pub other_case : (op : FieldOp) (s : Scope) (l : List ℕ) (p : template.RecordParts) (v : value.RecordParts) → s ≡ in_case l → is_literal l v.tag ≡ false → Known op s p v → v ≡ apply_by op s p v
+pub other_case : (op : FieldOp) (s : Scope) (l : List ℕ) (p : template.RecordParts) (v : value.RecordParts) → s ≡ in_case l → is_of_case l v.tag ≡ false → Known op s p v → v ≡ apply_by op s p v
 other_case op s l p v e t k =
     let a = applies op (in_case l) p v (subst (λ z. Known op z p v) e k) in
     sym (ap (λ b. if b then cased_after op (case_fields l p) v else v) t) ∙ (case_is op l p a.0 v a.1.fits ∙ ap (λ z. apply_by op z p v) (sym e))
@@ -186,20 +141,8 @@ no_scope : (l : List ℕ) (p : template.RecordParts) → found_case l p.choice �
 no_scope l p e = ap (option_map (λ (ds : List Field). record { fields = ds; taken = λ n. has n p.fields || is_tag n p.choice })) e
 
 no_case_at : (op : FieldOp) (l : List ℕ) (p : template.RecordParts) → scoped (in_case l) p ≡ None → is_some (new_by op (in_case l) p) ≡ true → ⊥
-no_case_at (rename x y) l p e h = none_some _ (scoped (in_case l) p) e h
-no_case_at (drop x) l p e h = none_some _ (scoped (in_case l) p) e h
-no_case_at (add x c) l p e h = none_some _ (scoped (in_case l) p) e h
-no_case_at (learn x k) l p e h = none_some _ (scoped (in_case l) p) e h
-no_case_at (forget x) l p e h = none_some _ (scoped (in_case l) p) e h
-no_case_at (default x c) l p e h = none_some _ (scoped (in_case l) p) e h
-no_case_at (maybe x) l p e h = none_some _ (scoped (in_case l) p) e h
-no_case_at (map_leaf x f) l p e h = none_some _ (scoped (in_case l) p) e h
-no_case_at (nest xs y) l p e h = none_some _ (scoped (in_case l) p) e h
-no_case_at (unnest y) l p e h = none_some _ (scoped (in_case l) p) e h
-no_case_at (wrap x) l p e h = none_some _ (scoped (in_case l) p) e h
-no_case_at (unify x f g) l p e h = none_some _ (scoped (in_case l) p) e h
 no_case_at (retag a b) l p e h = none_some _ (scoped (in_case l) p) e h
-no_case_at (add_case b gs) l p e h = none_some _ (scoped (in_case l) p) e h
+no_case_at op l p e h = none_some _ (scoped (in_case l) p) e h
 
 -- the case is there
 pub case_there : (op : FieldOp) (s : Scope) (l : List ℕ) (p : template.RecordParts) (v : value.RecordParts) → s ≡ in_case l → None ≡ found_case l p.choice → Known op s p v → ⊥

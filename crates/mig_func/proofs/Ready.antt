@@ -1,5 +1,5 @@
 -- Where a function fits the fields of a scope, it fits the slots.
-use Rattle.std.proofs.Common.{◌≡◌, ℕ, List, [], Bool, true, false, true≢false, Option, Some, None, refl, sym, ap, subst, ◌∙◌}
+use Rattle.std.proofs.Common.{◌≡◌, ℕ, List, [], true, Option, Some, None, sym, ap, subst, ◌∙◌, ◌⊎◌, inl, inr, arith}
 use Rattle.std.specs.Prelude.{is_some, option_and_then, unwrap_or, IfSome, if◌then◌else◌}
 use Rattle.std.specs.Map.{keys_of}
 use Rattle.mig_model.specs.declared.kind.Kind.{Kind}
@@ -12,14 +12,14 @@ use Rattle.mig_model.specs.Leaf.{LeafFn, leaf_out}
 use Rattle.mig_value.specs.Typed.{Typed, atom, left, right}
 use Rattle.mig_laws.proofs.Tests.{same_kind_is}
 use Rattle.mig_slots.specs.Fitting.{FitsAtom, OneFitsSide}
-use Rattle.mig_action.specs.Edits.{under}
+use Rattle.mig_model.specs.Names.{under}
 use Rattle.mig_action.specs.FieldFn.{FieldOp, map_leaf, unnest, unify}
-use Rattle.mig_action.specs.NewRecord.{Scoped, Slot, inner_fields, unnest_slot, leaf_after, leaf_of_both, common_kind, with_template, new_fields}
+use Rattle.mig_action.specs.NewRecord.{Scoped, FieldType, inner_fields, unnest_slot, leaf_after, leaf_of_both, common_kind, with_template, new_fields}
 use Rattle.mig_action.specs.Act.{inner_names, left_kind}
 use Rattle.mig_action.specs.Moves.{Moving}
 use Rattle.mig_action.proofs.Stands.{Stands}
 use Rattle.mig_action.proofs.Values.{mapped, then_some, both_kinds}
-use Rattle.mig_action.proofs.Single.{at-field}
+use Rattle.mig_action.proofs.Ops.{at-field}
 use Rattle.mig_func.specs.Ready.{IsReady, fields_within}
 use Rattle.mig_model.proofs.SameNames.{same_kind_itself}
 
@@ -34,7 +34,7 @@ leaf_ready f q (leaf k) W h (atom t) s =
     let m = mapped (λ j. leaf j) (leaf_out f k) W h in
     ap is_some (ap (leaf_out f) s ∙ m.1)
 leaf_ready f q (leaf k) W h v s = absurd s
-leaf_ready f q V W h v s = absurd (let e : None ≡ Some W = h in cc)
+leaf_ready f q V W h v s = cc
 
 side_ready : (f g : LeafFn) (q : Presence) (a b : Kind) (W : Template) → leaf_of_both f g (sum (leaf a) (leaf b)) ≡ Some W → (v : Typed) → Stands Whatever Anything (Some (q, sum (leaf a) (leaf b))) (Some v) → OneFitsSide f g a v
 side_ready f g q a b W h v s = by v s
@@ -45,21 +45,16 @@ side_ready f g q a b W h v s = by v s
         let k = both_kinds Whatever Anything (leaf_out f a) (leaf_out g b) m.0 m.1 in
         (m.0, k.0, k.1)
 
-    first : (t : Plain) (c : Bool) → same_kind (kind_of t) a ≡ c → kind_of t ≡ a → is_some (leaf_out (if c then f else g) (kind_of t)) ≡ true
-    first t true e k = ap is_some (ap (leaf_out f) k ∙ both.1)
-    first t false e k = absurd (true≢false (sym (ap (λ x. same_kind x a) k ∙ same_kind_itself a) ∙ e))
-
-    second : (t : Plain) (c : Bool) → same_kind (kind_of t) a ≡ c → kind_of t ≡ b → is_some (leaf_out (if c then f else g) (kind_of t)) ≡ true
-    second t true e k = ap is_some (ap (leaf_out f) (same_kind_is (kind_of t) a e) ∙ both.1)
-    second t false e k = ap is_some (ap (leaf_out g) k ∙ both.2)
+    one : (t : Plain) → (kind_of t ≡ a) ⊎ (kind_of t ≡ b) → is_some (leaf_out (if same_kind (kind_of t) a then f else g) (kind_of t)) ≡ true
+    one t e = let k = both in grind (arith, k, same_kind_is (kind_of t) a, same_kind_itself a)
 
     by : (u : Typed) → Stands Whatever Anything (Some (q, sum (leaf a) (leaf b))) (Some u) → OneFitsSide f g a u
-    by (left (atom t)) k = first t (same_kind (kind_of t) a) refl k
-    by (right (atom t)) k = second t (same_kind (kind_of t) a) refl k
+    by (left (atom t)) k = one t (inl k)
+    by (right (atom t)) k = one t (inr k)
     by u k = absurd k
 
 module _ (s : Scoped) (m : Moving) (stand : (n : List ℕ) → Stands Whatever Anything (under n s.fields) (under n m.slots)) where
-  at_old : (x : List ℕ) (old : Slot) → under x s.fields ≡ Some old → Stands Whatever Anything (Some old) (under x m.slots)
+  at_old : (x : List ℕ) (old : FieldType) → under x s.fields ≡ Some old → Stands Whatever Anything (Some old) (under x m.slots)
   at_old x old e = subst (λ F. Stands Whatever Anything F (under x m.slots)) e (stand x)
 
   map_ready : (x : List ℕ) (f : LeafFn) (gs : List Field) (r : Rest) → new_fields (map_leaf x f) r s ≡ Some gs → IsReady (map_leaf x f) s.fields m
@@ -81,11 +76,11 @@ module _ (s : Scoped) (m : Moving) (stand : (n : List ℕ) → Stands Whatever A
       by : (q : Presence) (V W : Template) → leaf_of_both f g V ≡ Some W → (S : Option Typed) → Stands Whatever Anything (Some (q, V)) S → IfSome S (OneFitsSide f g (left_kind (Some (q, V))))
       by q (sum (leaf a) (leaf b)) W k None l = tt
       by q (sum (leaf a) (leaf b)) W k (Some v) l = side_ready f g q a b W k v l
-      by q V W k S l = absurd (let e : None ≡ Some W = k in cc)
+      by q V W k S l = cc
 
   unnest_ready : (y : List ℕ) (gs : List Field) (r : Rest) → new_fields (unnest y) r s ≡ Some gs → IsReady (unnest y) s.fields m
   unnest_ready y gs r h =
-      let a = then_some (λ (f : Slot). option_and_then (unnest_slot y s f.0) (inner_fields f.1)) (under y s.fields) gs h in
+      let a = then_some (λ (f : FieldType). option_and_then (unnest_slot y s f.0) (inner_fields f.1)) (under y s.fields) gs h in
       let b = then_some (unnest_slot y s a.0.0) (inner_fields a.0.1) gs a.2 in
       ap is_some (ap fields_within a.1 ∙ b.1)
 
@@ -96,6 +91,6 @@ module _ (s : Scoped) (m : Moving) (stand : (n : List ℕ) → Stands Whatever A
   ready op gs r h = tt
 
 -- the names that the record under a field declares
-pub names_within : (s : Option Slot) (fs : List Field) → fields_within s ≡ Some fs → inner_names s ≡ keys_of fs
-names_within None fs h = absurd (let e : None ≡ Some fs = h in cc)
+pub names_within : (s : Option FieldType) (fs : List Field) → fields_within s ≡ Some fs → inner_names s ≡ keys_of fs
+names_within None fs h = cc
 names_within (Some s) fs h = ap (λ o. keys_of (unwrap_or o [])) h

@@ -1,26 +1,23 @@
 -- Records with other fields in one scope, from the parts that the code gives.
-use Rattle.std.proofs.Common.{◌≡◌, ℕ, List, [], ◌∷◌, ◌++◌, Bool, true, false, ◌||◌, Option, Some, None, refl, sym, ap, subst, ◌∙◌}
-use Rattle.std.specs.Prelude.{option_map, if◌then◌else◌}
+use Rattle.std.proofs.Common.{◌≡◌, ℕ, List, [], ◌∷◌, ◌++◌, Bool, false, ◌||◌, Option, Some, None, refl, sym, ap, subst, ◌∙◌, arith}
+use Rattle.std.specs.Prelude.{option_map, is_some}
 use Rattle.std.specs.List.{AllByRecursion, list_any}
 use Rattle.std.specs.Map.{keys_of}
 use Rattle.std.proofs.lemmas.List.Folds.{list_any-append}
 use Rattle.std.proofs.lemmas.List.Sorted.{IsPermutation-refl}
-use Rattle.mig_model.specs.Ascends.{Ascends}
-use Rattle.mig_model.specs.Family.{has_twice}
-use Rattle.mig_model.specs.Template.{Field, same_name}
+use Rattle.mig_model.specs.Names.{Ascends, has_twice, has, without, put}
+use Rattle.mig_model.specs.Template.{Field}
 use Rattle.mig_template.specs.Kept.{RecordKept}
 use Rattle.mig_template.specs.Parts.{Case, Cases, RecordParts, CasesAscend, IsRecord, IsRecordOf, IsOrderOf, IsChoiceOf, FieldsOrdered, has_twice_in, is_twice_in, is_twice_named}
 use Rattle.mig_template.proofs.CaseLists.{ordered_more}
 use Rattle.mig_template.proofs.Names.{keys_moved}
 use Rattle.mig_template.proofs.OneOrder.{one_record}
 use Rattle.mig_template.proofs.Sorted.{once_if_ascends}
-use Rattle.mig_action.specs.Edits.{has, without, put}
 use Rattle.mig_action.specs.FieldFn.{common, in_case}
 use Rattle.mig_func.specs.New.{HasFields, has_clash, taken_by_rest, with_more}
 use Rattle.mig_action.proofs.Edits.{ascends-without}
 use Rattle.mig_func.proofs.Offers.{order_all, gone, put-without}
 use Rattle.mig_func.proofs.Scopes.{case_clash}
-use Rattle.std.specs.Prelude.{is_some}
 use Rattle.std.proofs.Math.Bool.{or-false}
 use Rattle.mig_model.proofs.Bools.{split_or}
 
@@ -75,19 +72,11 @@ more_twice fields tag kept cs l es s apart once none =
 -- ---- a case taken out
 pub any_without : (q : Case → Bool) (l : List ℕ) (cs : List Case) → list_any q cs ≡ false → list_any q (without l cs) ≡ false
 any_without q l [] h = refl
-any_without q l (c ∷ cs) h = let s = split_or (q c) (list_any q cs) h in by (same_name l c.0) s.0 s.1 (any_without q l cs s.1)
-  where
-    by : (b : Bool) → q c ≡ false → list_any q cs ≡ false → list_any q (without l cs) ≡ false → list_any q (if b then cs else c ∷ without l cs) ≡ false
-    by true here later rest = later
-    by false here later rest = λ i. here i || rest i
+any_without q l (c ∷ cs) h = let rest = any_without q l cs in grind (arith, rest)
 
 pub all_without : (l : List ℕ) (cs : List Case) → AllByRecursion (λ (d : Case). Ascends d.1) cs → AllByRecursion (λ (d : Case). Ascends d.1) (without l cs)
 all_without l [] h = tt
-all_without l (c ∷ cs) h = by (same_name l c.0) (all_without l cs h.1)
-  where
-    by : (b : Bool) → AllByRecursion (λ (d : Case). Ascends d.1) (without l cs) → AllByRecursion (λ (d : Case). Ascends d.1) (if b then cs else c ∷ without l cs)
-    by true rest = h.1
-    by false rest = (h.0, rest)
+all_without l (c ∷ cs) h = grind (arith, h.0, h.1, all_without l cs h.1)
 
 -- what a record with the choice keeps of its cases
 pub record CasesAre (fields : List Field) (c : Cases) : Type 0 where
@@ -105,22 +94,28 @@ cases_are p c k is = by (subst (λ (o : Option Cases). IsRecord p.fields o) is k
         let b = split_or (list_any (has_twice_in (c.0 ∷ keys_of p.fields)) c.1) (has_twice (keys_of c.1)) a.1 in
         record { ascend = h.cases.0; each = h.cases.1; tag = a.0; none = b.0 }
 
--- ---- other fields in a case
-pub case_made : (p r : RecordParts) (c : Cases) (l : List ℕ) (es : List Field) → RecordKept p → p.choice ≡ Some c → IsRecordOf p.fields (with_more c.0 c.2 (without l c.1) (l, es)) p.rest r → HasFields (in_case l) p es r
-case_made p r c l es k is h =
-    let a = cases_are p c k is in
-    let o = more_ordered c.0 c.2 (without l c.1) l es r.choice h.choice in
-    let made : r ≡ record p { choice = Some (c.0, put l o.0 (without l c.1), c.2) } =
-    more_made p r c.0 c.2 (without l c.1) l es o.0 k (ascends-without l c.1 a.ascend) (all_without l c.1 a.each) (ap is_some (gone l c.1 a.ascend)) o.1 h in (
-      o.0,
-      o.1,
-      made
-          ∙ (λ i. record p { choice = Some (c.0, put-without l o.0 c.1 a.ascend i, c.2) })
-          ∙ (λ i. record p { choice = option_map (λ d. (d.0, put l o.0 d.1, d.2)) (sym is i) }),
-    )
+-- ---- other fields in a case, given among the copies of the other cases
+module _ (p : RecordParts) (c : Cases) (l : List ℕ) (es : List Field) (k : RecordKept p) (is : p.choice ≡ Some c) (cs : List Case) (m : List ℕ) (same : cs ≡ without l c.1) (named : m ≡ l) where
+  given_is : with_more c.0 c.2 cs (m, es) ≡ with_more c.0 c.2 (without l c.1) (l, es)
+  given_is = λ i. with_more c.0 c.2 (same i) (named i, es)
 
-pub case_twice : (p : RecordParts) (c : Cases) (l : List ℕ) (es : List Field) → RecordKept p → p.choice ≡ Some c → is_twice_named p.fields (with_more c.0 c.2 (without l c.1) (l, es)) ≡ has_clash (taken_by_rest p) es
-case_twice p c l es k is =
-    let a = cases_are p c k is in
-    more_twice p.fields c.0 c.2 (without l c.1) l es (ascends-without l c.1 a.ascend) (ap is_some (gone l c.1 a.ascend)) a.tag (any_without (has_twice_in (c.0 ∷ keys_of p.fields)) l c.1 a.none)
-    ∙ case_clash p c es is a.tag
+  pub case_made : (r : RecordParts) → IsRecordOf p.fields (with_more c.0 c.2 cs (m, es)) p.rest r → HasFields (in_case l) p es r
+  case_made r h =
+      let a = cases_are p c k is in
+      let g : IsRecordOf p.fields (with_more c.0 c.2 (without l c.1) (l, es)) p.rest r = subst (λ o. IsRecordOf p.fields o p.rest r) given_is h in
+      let o = more_ordered c.0 c.2 (without l c.1) l es r.choice g.choice in
+      let made : r ≡ record p { choice = Some (c.0, put l o.0 (without l c.1), c.2) } =
+      more_made p r c.0 c.2 (without l c.1) l es o.0 k (ascends-without l c.1 a.ascend) (all_without l c.1 a.each) (ap is_some (gone l c.1 a.ascend)) o.1 g in (
+        o.0,
+        o.1,
+        made
+            ∙ (λ i. record p { choice = Some (c.0, put-without l o.0 c.1 a.ascend i, c.2) })
+            ∙ (λ i. record p { choice = option_map (λ d. (d.0, put l o.0 d.1, d.2)) (sym is i) }),
+      )
+
+  pub case_twice : is_twice_named p.fields (with_more c.0 c.2 cs (m, es)) ≡ has_clash (taken_by_rest p) es
+  case_twice =
+      let a = cases_are p c k is in
+      ap (is_twice_named p.fields) given_is
+      ∙ more_twice p.fields c.0 c.2 (without l c.1) l es (ascends-without l c.1 a.ascend) (ap is_some (gone l c.1 a.ascend)) a.tag (any_without (has_twice_in (c.0 ∷ keys_of p.fields)) l c.1 a.none)
+      ∙ case_clash p c es is a.tag

@@ -9,7 +9,7 @@ use Rattle.mig_template.specs.Parts.{Cases, choice_of}
 use Rattle.mig_template.proofs.Views.{field_list_of}
 use Rattle.mig_slots.specs.declared.moving.Moving.{Moving}
 use Rattle.mig_slots.specs.View.{moving_of}
-use Rattle.mig_action.specs.Edits.{under, without, put_all, others}
+use Rattle.mig_model.specs.Names.{under, without, put_all, others}
 use Rattle.mig_action.specs.FieldFn.{unnest}
 use Rattle.mig_action.specs.NewRecord.{inner_fields}
 use Rattle.mig_action.specs.Moves as model

@@ -4,8 +4,7 @@ use Rattle.std.specs.List.{list_any, list_all}
 use Rattle.std.specs.Map.{keys_of}
 use Rattle.mig_model.specs.declared.rest.Rest.{Rest}
 use Rattle.mig_model.specs.Template.{Field}
-use Rattle.mig_model.specs.Family.{has_twice}
-use Rattle.mig_action.specs.Edits.{has}
+use Rattle.mig_model.specs.Names.{has_twice, has}
 use Rattle.mig_model.specs.Fields.{is_in_choice}
 use Rattle.mig_template.specs.Parts.{Case, Cases, RecordParts, IsOrderOf, choice_of}
 use Rattle.mig_action.specs.FieldFn.{Scope, FieldOp, retag, add_case}
@@ -14,9 +13,9 @@ use Rattle.mig_func.specs.declared.fault.FuncFault.{FuncFault}
 use Rattle.mig_func.specs.declared.fault.FuncFault.TheVariants.{Misfit, Memory}
 
 -- a misfit is for this reason; want of memory says nothing
-abbrev pub IsFault : FuncFault → Type 0 → Type 0
-IsFault Misfit P = P
-IsFault Memory P = Unit {0}
+abbrev pub IsMisfit : FuncFault → Type 0 → Type 0
+IsMisfit Misfit P = P
+IsMisfit Memory P = Unit {0}
 
 -- a name is there twice or taken
 abbrev pub has_clash : (List ℕ → Bool) → List Field → Bool

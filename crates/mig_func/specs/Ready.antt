@@ -4,14 +4,14 @@ use Rattle.mig_model.specs.Template.{Field}
 use Rattle.mig_slots.specs.Fitting.{FitsAtom, OneFitsSide}
 use Rattle.mig_value.specs.Typed.{Tag}
 use Rattle.mig_value.specs.Parts.{RecordParts}
-use Rattle.mig_action.specs.Edits.{under}
+use Rattle.mig_model.specs.Names.{under}
 use Rattle.mig_action.specs.FieldFn.{FieldOp, map_leaf, unify, unnest, retag}
-use Rattle.mig_action.specs.NewRecord.{Slot, inner_fields}
+use Rattle.mig_action.specs.NewRecord.{FieldType, inner_fields}
 use Rattle.mig_action.specs.Act.{left_kind}
 use Rattle.mig_action.specs.Moves.{Moving, move, retag_to}
 
 -- the fields of the record under a field
-abbrev pub fields_within : Option Slot → Option (List Field)
+abbrev pub fields_within : Option FieldType → Option (List Field)
 fields_within s = option_and_then (λ t. inner_fields t.1) s
 
 -- leaf functions fit the leaves that stand there, and a record to be unnested is one

@@ -3,22 +3,21 @@ ghost use Rattle.std.specs.Prelude.{◌≡◌, ◌≤◌, ℕ, List, [], Some, f
 ghost use Rattle.std.specs.List.{AllByRecursion};
 ghost use Rattle.mig_model.specs.declared.form.Form.{Form};
 ghost use Rattle.mig_model.specs.Template as plain;
-ghost use Rattle.mig_model.specs.Template.{same_name};
+ghost use Rattle.mig_model.specs.Names.{same_name, under};
 ghost use Rattle.mig_model.specs.Plain.{on_entries};
 ghost use Rattle.mig_template.specs.Parts as template;
 ghost use Rattle.mig_template.specs.Parts.{found_case};
 ghost use Rattle.mig_value.specs.Typed.{out};
 ghost use Rattle.mig_value.specs.Parts as value;
-ghost use Rattle.mig_value.specs.Parts.{IsRecord};
-ghost use Rattle.mig_value.specs.Fit.{Fits, Shape, Fit, IsOfForm};
+ghost use Rattle.mig_value.specs.Parts.{IsRecordValue};
+ghost use Rattle.mig_value.specs.Fit.{ValueFits, Shape, Fit, IsOfForm};
 ghost use Rattle.mig_value.specs.View.{typed_of};
 ghost use Rattle.mig_slots.specs.View.{moving_of, IsOrdered};
-ghost use Rattle.mig_action.specs.Edits.{under};
 ghost use Rattle.mig_action.specs.FieldFn as action;
 ghost use Rattle.mig_template.specs.View.{template_of};
 ghost use Rattle.mig_action.specs.NewRecord.{new_record, inner_fields};
 ghost use Rattle.mig_action.specs.Act.{act, left_kind};
-ghost use Rattle.mig_action.specs.Moves.{move, fill_value, apply, is_literal};
+ghost use Rattle.mig_action.specs.Moves.{move, fill_value, apply, is_of_case};
 ghost use Rattle.mig_action.specs.Nodes.{nodes_at};
 ghost use Rattle.mig_value.specs.Nodes.{Test, nodes};
 ghost use Rattle.mig_func.specs.Ready.{IsReady, fields_within, tag_after, common_after, cased_after, in_common, in_cased};
@@ -174,7 +173,7 @@ impl FieldOp {
         given: RecValue<'a>,
     ) -> Result<RecValue<'a>, Memory>
         requires ready { IsReady (field_op_of self.now) fields.now (in_common given) }
-        requires parts { IsRecord (common_after (field_op_of self.now) fields.now given) }
+        requires parts { IsRecordValue (common_after (field_op_of self.now) fields.now given) }
         ensures { IfOk result (λ w. w ≡ common_after (field_op_of self.now) fields.now given.entry) }
     {
         let (known, tag, cased, rest) = given.into_parts(alloc);
@@ -197,7 +196,7 @@ impl FieldOp {
         given: RecValue<'a>,
     ) -> Result<RecValue<'a>, Memory>
         requires ready { IsReady (field_op_of self.now) fields.now (in_cased given) }
-        requires parts { IsRecord (cased_after (field_op_of self.now) fields.now given) }
+        requires parts { IsRecordValue (cased_after (field_op_of self.now) fields.now given) }
         ensures { IfOk result (λ w. w ≡ cased_after (field_op_of self.now) fields.now given.entry) }
     {
         let (known, tag, cased, rest) = given.into_parts(alloc);
@@ -240,7 +239,7 @@ fn new_literal<'a>(literal: Text<'a>, from: &Name, to: &'a Name) -> Text<'a>
 
 /// Whether the record value's tag is the literal.
 fn has_literal(given: &RecValue, literal: &Name) -> bool
-    ensures { result ≡ is_literal literal.now given.now.tag }
+    ensures { result ≡ is_of_case literal.now given.now.tag }
 {
     match given.tag() {
         Some((_, found)) => found.bytes().cmp(literal.bytes()).is_eq(),
@@ -291,9 +290,9 @@ impl FieldFn {
             ≡ Some r → Shape (template.record_of r) (typed_of w)) }
         ensures fit { IfOk result (λ w. (r : template.RecordParts) → new_record (field_fn_of self.now) on.now
             ≡ Some r → (form : Form) (body : List ℕ → plain.Template) →
-            Fits (IsOfForm form) (Fit form body) (template.record_of on.now) (typed_of value.entry) →
+            ValueFits (IsOfForm form) (Fit form body) (template.record_of on.now) (typed_of value.entry) →
             IsOfForm form (typed_of value.entry) →
-            Fits (IsOfForm form) (Fit form body) (template.record_of r) (typed_of w)) }
+            ValueFits (IsOfForm form) (Fit form body) (template.record_of r) (typed_of w)) }
         ensures nodes { IfOk result (λ w. (r : template.RecordParts) → new_record (field_fn_of self.now) on.now
             ≡ Some r → AllByRecursion (Contains (nodes_at (template.record_of on.now) (typed_of value.entry)))
             (nodes_at (template.record_of r) (typed_of w))) }

@@ -1,28 +1,11 @@
 //! Whether each sum in a template can be told by the kinds of its sides.
 ghost use Rattle.std.specs.Prelude.{◌≡◌};
 ghost use Rattle.mig_action.specs.NewRecord.{is_unclear, is_clear};
-ghost use Rattle.mig_model.specs.Family.{is_point, sides_overlap, any_inside, any_in_fields, any_in_cases};
-ghost use Rattle.mig_model.specs.Template.{sum, fields_of, cases_of};
+ghost use Rattle.mig_model.specs.Template.{sum};
 ghost use Rattle.mig_template.specs.View.{template_of};
 
-use mig_template::{Choice, Fields, Template};
+use mig_template::{Template, TemplateTest, is_point, passes_inside};
 use mig_tree::Form;
-
-/// Whether it is a point.
-fn is_point(template: &Template) -> bool
-    ensures { result ≡ is_point (template_of template.now) }
-{
-    matches!(template, Template::Point(_))
-}
-
-/// Whether the two share a kind of an NBT file.
-fn do_overlap(left: &Template, right: &Template) -> bool
-    ensures { result ≡ sides_overlap Form.Nbt (sum (template_of left.now) (template_of right.now)) }
-{
-    let left = left.kinds(Form::Nbt);
-    let right = right.kinds(Form::Nbt);
-    left.meets(&right)
-}
 
 /// Whether a sum of the two is one whose sides aren't told apart by their kinds.
 fn is_unclear_sum(left: &Template, right: &Template) -> bool
@@ -32,7 +15,7 @@ fn is_unclear_sum(left: &Template, right: &Template) -> bool
         || matches!(right, Template::Any)
         || is_point(left)
         || is_point(right)
-        || do_overlap(left, right)
+        || left.shares_kind(Form::Nbt, right)
 }
 
 /// Whether it is a sum whose sides aren't told apart by their kinds.
@@ -49,59 +32,20 @@ fn is_unclear(template: &Template) -> bool
     }
 }
 
-/// Whether the template or one inside it is such a sum.
-#[cycle(clear)]
-fn has_unclear(template: &Template) -> bool
-    ensures { result ≡ any_inside is_unclear (template_of template.now) }
-{
-    if is_unclear(template) {
-        return true;
-    }
-    match template {
-        Template::Leaf(_) | Template::Any | Template::Point(_) => false,
-        Template::List(part) => has_unclear(part.get()),
-        Template::Rec(record) => {
-            if fields_have_unclear(record.fields()) {
-                return true;
-            }
-            match record.choice() {
-                Some(choice) => cases_have_unclear(choice),
-                None => false,
-            }
-        }
-        Template::Sum(left, right) => has_unclear(left.get()) || has_unclear(right.get()),
-    }
-}
+// The test of `is_unclear`.
+struct IsUnclear;
 
-/// Whether a template in the fields has one.
-#[cycle(clear)]
-fn fields_have_unclear(fields: &Fields) -> bool
-    ensures { result ≡ any_in_fields is_unclear (fields_of fields.now) }
-{
-    for field in fields.as_slice() {
-        if has_unclear(&field.template) {
-            return true;
-        }
-    }
-    false
-}
+impl TemplateTest for IsUnclear {
+    ghost passes = { λ test. is_unclear };
 
-/// Whether a template in the cases has one.
-#[cycle(clear)]
-fn cases_have_unclear(choice: &Choice) -> bool
-    ensures { result ≡ any_in_cases is_unclear (cases_of choice.now.1) }
-{
-    for case in choice.cases() {
-        if fields_have_unclear(&case.fields) {
-            return true;
-        }
+    fn passes(&self, template: &Template) -> bool {
+        is_unclear(template)
     }
-    false
 }
 
 /// Whether the sides of each sum in the template are told apart by their kinds.
 pub fn is_clear(template: &Template) -> bool
     ensures { result ≡ is_clear (template_of template.now) }
 {
-    !has_unclear(template)
+    !passes_inside(&IsUnclear, template)
 }

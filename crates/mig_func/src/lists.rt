@@ -1,8 +1,6 @@
 //! Lists of fields without some, or with one more.
 ghost use Rattle.std.specs.Prelude.{◌≡◌, ◌∷◌, ◌++◌, [], IfOk, map};
-ghost use Rattle.mig_action.specs.Edits.{without, those, others};
-ghost use Rattle.mig_model.specs.Template.{same_name};
-ghost use Rattle.mig_model.specs.Ascends.{Ascends};
+ghost use Rattle.mig_model.specs.Names.{without, those, others, same_name, Ascends};
 ghost use Rattle.mig_template.specs.View.{template_of, field_of};
 
 use crate::Names;

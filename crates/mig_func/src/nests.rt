@@ -1,15 +1,14 @@
 //! The new fields of a nest and of an unnest.
 ghost use Rattle.std.specs.Prelude.{◌≡◌, ◌∷◌, ◌++◌, [], Some, false, true, map, IfOk, IfErr};
 ghost use Rattle.std.specs.List.{list_all};
-ghost use Rattle.mig_action.specs.Edits.{has, those, others, under};
+ghost use Rattle.mig_model.specs.Names.{has, those, others, under, Ascends};
 ghost use Rattle.mig_action.specs.FieldFn.{nest, unnest};
 ghost use Rattle.mig_action.specs.NewRecord.{unnested, is_some_name};
 ghost use Rattle.mig_model.specs.declared.rest.Rest as rests;
 ghost use Rattle.mig_model.specs.Template.{rec, fields_of, no_choice};
 ghost use Rattle.mig_template.specs.View.{template_of, field_of};
-ghost use Rattle.mig_model.specs.Ascends.{Ascends};
 ghost use Rattle.mig_template.specs.Parts.{record_of};
-ghost use Rattle.mig_func.specs.New.{IsFault, Offers, Refuses};
+ghost use Rattle.mig_func.specs.New.{IsMisfit, Offers, Refuses};
 
 use crate::copies::copy_field;
 use crate::lists::{all_but, others, those};
@@ -49,7 +48,7 @@ fn is_some_name(names: &[Name]) -> bool
 /// A record of the fields of the names.
 fn inner(alloc: Global, fields: &Fields, names: &Names) -> Result<Template, FuncFault>
     ensures made { IfOk result (λ t. template_of t ≡ rec (fields_of (those names.now fields.now)) no_choice Rest.Open) }
-    ensures fit { IfErr result (λ e. IsFault e (true ≡ false)) }
+    ensures fit { IfErr result (λ e. IsMisfit e (true ≡ false)) }
 {
     let list = those(alloc, fields, names)?;
     match record_of(alloc, list, None, Rest::Open) {
@@ -89,7 +88,8 @@ pub fn nested(
 ) -> Result<Vec<Field>, FuncFault>
     ensures offers { IfOk result (λ es. (r : rests.Rest) →
         Offers (nest names.now name.now) r fields.now (map field_of es.items)) }
-    ensures misfit { IfErr result (λ e. IsFault e ((r : rests.Rest) → Refuses (nest names.now name.now) r fields.now)) }
+    ensures misfit { IfErr result (λ e. IsMisfit e ((r : rests.Rest)
+        → Refuses (nest names.now name.now) r fields.now)) }
 {
     if !is_some_name(names.as_slice()) {
         return Err(FuncFault::Misfit);
@@ -147,7 +147,7 @@ fn outside(
     requires { under name.now fields.now ≡ Some (presence, record_of inner.now) }
     ensures offers { IfOk result (λ es. (r : rests.Rest) →
         Offers (unnest name.now) r fields.now (map field_of es.items)) }
-    ensures misfit { IfErr result (λ e. IsFault e ((r : rests.Rest) → Refuses (unnest name.now) r fields.now)) }
+    ensures misfit { IfErr result (λ e. IsMisfit e ((r : rests.Rest) → Refuses (unnest name.now) r fields.now)) }
 {
     inner.keeps();
     if inner.choice().is_some() {
@@ -162,7 +162,7 @@ fn outside(
 pub fn unnested(alloc: Global, fields: &Fields, name: &Name) -> Result<Vec<Field>, FuncFault>
     ensures offers { IfOk result (λ es. (r : rests.Rest) →
         Offers (unnest name.now) r fields.now (map field_of es.items)) }
-    ensures misfit { IfErr result (λ e. IsFault e ((r : rests.Rest) → Refuses (unnest name.now) r fields.now)) }
+    ensures misfit { IfErr result (λ e. IsMisfit e ((r : rests.Rest) → Refuses (unnest name.now) r fields.now)) }
 {
     let Some(field) = fields.get(name.bytes()) else {
         return Err(FuncFault::Misfit);

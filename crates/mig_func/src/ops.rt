@@ -5,7 +5,7 @@ ghost use Rattle.mig_action.specs.NewRecord.{at_field};
 ghost use Rattle.mig_model.specs.declared.rest.Rest as rests;
 ghost use Rattle.mig_model.specs.Template.{is_open};
 ghost use Rattle.mig_template.specs.View.{field_of};
-ghost use Rattle.mig_func.specs.New.{IsFault, Offers, Refuses, OffersList};
+ghost use Rattle.mig_func.specs.New.{IsMisfit, Offers, Refuses, OffersList};
 ghost use Rattle.mig_func.specs.Slot.{slot_after};
 ghost use Rattle.mig_func.specs.View.{fill_of, field_op_of};
 
@@ -18,7 +18,7 @@ use mig_tree::{Kind, Name};
 use std::alloc::Global;
 
 /// What stands under the first name stands under the second.
-pub fn renamed(
+pub fn rename_field(
     alloc: Global,
     fields: &Fields,
     from: &Name,
@@ -26,7 +26,7 @@ pub fn renamed(
 ) -> Result<Vec<Field>, FuncFault>
     ensures offers { IfOk result (λ es. (r : rests.Rest) →
         Offers (rename from.now to.now) r fields.now (map field_of es.items)) }
-    ensures misfit { IfErr result (λ e. IsFault e ((r : rests.Rest) → Refuses (rename from.now to.now) r fields.now)) }
+    ensures misfit { IfErr result (λ e. IsMisfit e ((r : rests.Rest) → Refuses (rename from.now to.now) r fields.now)) }
 {
     let Some(field) = fields.get(from.bytes()) else {
         return Err(FuncFault::Misfit);
@@ -40,10 +40,10 @@ pub fn renamed(
 }
 
 /// The fields without the one of the name.
-pub fn dropped(alloc: Global, fields: &Fields, name: &Name) -> Result<Vec<Field>, FuncFault>
+pub fn drop_field(alloc: Global, fields: &Fields, name: &Name) -> Result<Vec<Field>, FuncFault>
     ensures offers { IfOk result (λ es. (r : rests.Rest) →
         Offers (drop name.now) r fields.now (map field_of es.items)) }
-    ensures misfit { IfErr result (λ e. IsFault e ((r : rests.Rest) → Refuses (drop name.now) r fields.now)) }
+    ensures misfit { IfErr result (λ e. IsMisfit e ((r : rests.Rest) → Refuses (drop name.now) r fields.now)) }
 {
     if !fields.has(name.bytes()) {
         return Err(FuncFault::Misfit);
@@ -53,14 +53,14 @@ pub fn dropped(alloc: Global, fields: &Fields, name: &Name) -> Result<Vec<Field>
 }
 
 /// The same, where the record is open.
-pub fn forgotten(
+pub fn forget_field(
     alloc: Global,
     fields: &Fields,
     rest: Rest,
     name: &Name,
 ) -> Result<Vec<Field>, FuncFault>
     ensures offers { IfOk result (λ es. Offers (forget name.now) rest fields.now (map field_of es.items)) }
-    ensures misfit { IfErr result (λ e. IsFault e (Refuses (forget name.now) rest fields.now)) }
+    ensures misfit { IfErr result (λ e. IsMisfit e (Refuses (forget name.now) rest fields.now)) }
 {
     if !is_open(rest) {
         return Err(FuncFault::Misfit);
@@ -80,7 +80,7 @@ fn is_open(rest: Rest) -> bool
 }
 
 /// The fields and one that each map gets.
-pub fn added(
+pub fn add_field(
     alloc: Global,
     fields: &Fields,
     name: &Name,
@@ -88,7 +88,7 @@ pub fn added(
 ) -> Result<Vec<Field>, FuncFault>
     ensures offers { IfOk result (λ es. (r : rests.Rest) →
         Offers (add name.now (fill_of fill.now)) r fields.now (map field_of es.items)) }
-    ensures misfit { IfErr result (λ e. IsFault e ((r : rests.Rest) →
+    ensures misfit { IfErr result (λ e. IsMisfit e ((r : rests.Rest) →
         Refuses (add name.now (fill_of fill.now)) r fields.now)) }
 {
     let template = fill.template(alloc)?;
@@ -109,7 +109,7 @@ pub fn with_learned(
     kind: Option<Kind>,
 ) -> Result<Vec<Field>, FuncFault>
     ensures offers { IfOk result (λ es. Offers (learn name.now kind) rest fields.now (map field_of es.items)) }
-    ensures misfit { IfErr result (λ e. IsFault e (Refuses (learn name.now kind) rest fields.now)) }
+    ensures misfit { IfErr result (λ e. IsMisfit e (Refuses (learn name.now kind) rest fields.now)) }
 {
     if !is_open(rest) {
         return Err(FuncFault::Misfit);
@@ -131,7 +131,7 @@ pub fn at_field(
     ensures offers { IfOk result (λ es.
         OffersList (at_field name.now (slot_after (field_op_of op.now)) fields.now) fields.now
         (map field_of es.items)) }
-    ensures misfit { IfErr result (λ e. IsFault e (at_field name.now (slot_after (field_op_of op.now)) fields.now
+    ensures misfit { IfErr result (λ e. IsMisfit e (at_field name.now (slot_after (field_op_of op.now)) fields.now
         ≡ None)) }
 {
     let Some(field) = fields.get(name.bytes()) else {

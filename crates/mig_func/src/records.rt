@@ -1,12 +1,10 @@
 //! Records with other fields, or with other cases.
 ghost use Rattle.std.specs.Prelude.{◌≡◌, ◌∷◌, ◌++◌, [], Some, true, false, map, option_map, IfOk, IfErr};
-ghost use Rattle.mig_action.specs.Edits.{without};
+ghost use Rattle.mig_model.specs.Names.{without, same_name, Ascends};
 ghost use Rattle.mig_action.specs.FieldFn.{common, in_case};
-ghost use Rattle.mig_model.specs.Template.{same_name};
-ghost use Rattle.mig_model.specs.Ascends.{Ascends};
 ghost use Rattle.mig_template.specs.Parts.{IsRecordOf, is_twice_named, has_no_case};
 ghost use Rattle.mig_template.specs.View.{field_of, case_of, given_case, given_choice};
-ghost use Rattle.mig_func.specs.New.{IsFault, HasFields, has_clash, taken_by_choice, taken_by_rest, with_more};
+ghost use Rattle.mig_func.specs.New.{IsMisfit, HasFields, has_clash, taken_by_choice, taken_by_rest, with_more};
 
 use crate::FuncFault;
 use mig_template::{Case, Choice, Field, Record, RecordFault, Rest};
@@ -81,7 +79,7 @@ pub fn record_of(
     requires { has_no_case (given_choice choice) ≡ false }
     ensures made { IfOk result (IsRecordOf (map field_of fields.items) (given_choice choice) rest) }
     ensures once { IfOk result (λ r. is_twice_named (map field_of fields.items) (given_choice choice) ≡ false) }
-    ensures misfit { IfErr result (λ e. IsFault e (is_twice_named (map field_of fields.items) (given_choice choice)
+    ensures misfit { IfErr result (λ e. IsMisfit e (is_twice_named (map field_of fields.items) (given_choice choice)
         ≡ true)) }
 {
     match Record::new(alloc, fields, choice, rest) {
@@ -97,7 +95,7 @@ pub fn with_common(alloc: Global, on: &Record, list: Vec<Field>) -> Result<Recor
     ensures made { IfOk result (λ r. HasFields common on.now (map field_of list.items) r) }
     ensures once { IfOk result (λ r. has_clash (taken_by_choice on.now.choice) (map field_of list.items) ≡ false) }
     ensures misfit { IfErr result (λ e.
-        IsFault e (has_clash (taken_by_choice on.now.choice) (map field_of list.items) ≡ true)) }
+        IsMisfit e (has_clash (taken_by_choice on.now.choice) (map field_of list.items) ≡ true)) }
 {
     on.keeps();
     let choice = copy_choice(alloc, on)?;
@@ -119,7 +117,7 @@ pub fn with_more(
         is_twice_named on.now.fields (with_more choice.now.0 choice.now.2 (map given_case cases.items)
         (literal, map field_of list.items)) ≡ false) }
     ensures misfit { IfErr result (λ e.
-        IsFault e (is_twice_named on.now.fields (with_more choice.now.0 choice.now.2 (map given_case cases.items)
+        IsMisfit e (is_twice_named on.now.fields (with_more choice.now.0 choice.now.2 (map given_case cases.items)
         (literal, map field_of list.items)) ≡ true)) }
 {
     let tag = choice.tag().copy(alloc)?;
@@ -139,7 +137,8 @@ pub fn with_case(
     requires { on.now.choice ≡ Some choice.now }
     ensures made { IfOk result (λ r. HasFields (in_case literal.now) on.now (map field_of list.items) r) }
     ensures once { IfOk result (λ r. has_clash (taken_by_rest on.now) (map field_of list.items) ≡ false) }
-    ensures misfit { IfErr result (λ e. IsFault e (has_clash (taken_by_rest on.now) (map field_of list.items) ≡ true)) }
+    ensures misfit { IfErr result (λ e. IsMisfit e (has_clash (taken_by_rest on.now) (map field_of list.items)
+        ≡ true)) }
 {
     on.keeps();
     let name = literal.copy(alloc)?;

@@ -4,7 +4,7 @@ ghost use Rattle.mig_action.specs.FieldFn.{common, retag, add_case};
 ghost use Rattle.mig_action.specs.NewRecord.{new_by};
 ghost use Rattle.mig_template.specs.Parts.{found_case};
 ghost use Rattle.mig_template.specs.View.{field_of};
-ghost use Rattle.mig_func.specs.New.{IsFault, are_clear};
+ghost use Rattle.mig_func.specs.New.{IsMisfit, are_clear};
 
 use crate::FuncFault;
 use crate::clear::is_clear;
@@ -28,7 +28,7 @@ fn retag_case(
     requires found { found_case from.now on.now.choice ≡ Some fields.now }
     requires apart { found_case to.now on.now.choice ≡ None }
     ensures made { IfOk result (λ r. new_by (retag from.now to.now) common on.now ≡ Some r) }
-    ensures misfit { IfErr result (λ e. IsFault e (new_by (retag from.now to.now) common on.now ≡ None)) }
+    ensures misfit { IfErr result (λ e. IsMisfit e (new_by (retag from.now to.now) common on.now ≡ None)) }
 {
     on.keeps();
     let list = fields.copy(alloc)?.into_vec();
@@ -40,7 +40,7 @@ fn retag_case(
 /// The same, where the first literal has a case, the second has none, and no unknown tag is kept.
 pub fn retagged(alloc: Global, on: &Record, from: &Name, to: &Name) -> Result<Record, FuncFault>
     ensures made { IfOk result (λ r. new_by (retag from.now to.now) common on.now ≡ Some r) }
-    ensures misfit { IfErr result (λ e. IsFault e (new_by (retag from.now to.now) common on.now ≡ None)) }
+    ensures misfit { IfErr result (λ e. IsMisfit e (new_by (retag from.now to.now) common on.now ≡ None)) }
 {
     let Some(choice) = on.choice() else {
         return Err(FuncFault::Misfit);
@@ -83,7 +83,7 @@ fn add_case(
     requires clear { are_clear (map field_of fields.now) ≡ true }
     ensures made { IfOk result (λ r. new_by (add_case literal.now (map field_of fields.now)) common on.now ≡ Some r) }
     ensures misfit { IfErr result (λ e.
-        IsFault e (new_by (add_case literal.now (map field_of fields.now)) common on.now ≡ None)) }
+        IsMisfit e (new_by (add_case literal.now (map field_of fields.now)) common on.now ≡ None)) }
 {
     on.keeps();
     let list = copy_fields(alloc, fields)?;
@@ -101,7 +101,7 @@ pub fn with_new_case(
 ) -> Result<Record, FuncFault>
     ensures made { IfOk result (λ r. new_by (add_case literal.now (map field_of fields.now)) common on.now ≡ Some r) }
     ensures misfit { IfErr result (λ e.
-        IsFault e (new_by (add_case literal.now (map field_of fields.now)) common on.now ≡ None)) }
+        IsMisfit e (new_by (add_case literal.now (map field_of fields.now)) common on.now ≡ None)) }
 {
     let Some(choice) = on.choice() else {
         return Err(FuncFault::Misfit);

@@ -6,7 +6,7 @@ ghost use Rattle.mig_action.specs.SameTemplate.{same_template};
 ghost use Rattle.mig_leaf.specs.View.{leaf_fn_of};
 ghost use Rattle.mig_model.specs.Template.{list, sum, is_must};
 ghost use Rattle.mig_template.specs.View.{template_of};
-ghost use Rattle.mig_func.specs.New.{IsFault};
+ghost use Rattle.mig_func.specs.New.{IsMisfit};
 ghost use Rattle.mig_func.specs.Slot.{slot_after, common_out};
 ghost use Rattle.mig_func.specs.View.{fill_of, field_op_of};
 
@@ -117,7 +117,7 @@ pub fn slot_after(
         slot_after (field_op_of op.now) (field.now.presence, template_of field.now.template)
         ≡ Some (s.0, template_of s.1)) }
     ensures misfit { IfErr result (λ e.
-        IsFault e (slot_after (field_op_of op.now) (field.now.presence, template_of field.now.template) ≡ None)) }
+        IsMisfit e (slot_after (field_op_of op.now) (field.now.presence, template_of field.now.template) ≡ None)) }
 {
     let presence = field.presence;
     match op {

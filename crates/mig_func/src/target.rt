@@ -4,11 +4,11 @@ ghost use Rattle.mig_action.specs.FieldFn.{common, in_case};
 ghost use Rattle.mig_action.specs.NewRecord.{new_by, new_record};
 ghost use Rattle.mig_template.specs.Parts.{found_case};
 ghost use Rattle.mig_template.specs.View.{field_of};
-ghost use Rattle.mig_func.specs.New.{IsFault, Offers, Refuses, is_about_cases};
+ghost use Rattle.mig_func.specs.New.{IsMisfit, Offers, Refuses, is_about_cases};
 ghost use Rattle.mig_func.specs.View.{field_op_of, field_fn_of};
 
 use crate::nests::{nested, unnested};
-use crate::ops::{added, at_field, dropped, forgotten, renamed, with_learned};
+use crate::ops::{add_field, at_field, drop_field, forget_field, rename_field, with_learned};
 use crate::records::{with_case, with_common};
 use crate::retags::{retagged, with_new_case};
 use crate::{FieldFn, FieldOp, FuncFault, Scope};
@@ -25,14 +25,14 @@ impl FieldOp {
         rest: Rest,
     ) -> Result<Vec<Field>, FuncFault>
         ensures offers { IfOk result (λ es. Offers (field_op_of self.now) rest fields.now (map field_of es.items)) }
-        ensures misfit { IfErr result (λ e. IsFault e (Refuses (field_op_of self.now) rest fields.now)) }
+        ensures misfit { IfErr result (λ e. IsMisfit e (Refuses (field_op_of self.now) rest fields.now)) }
     {
         match self {
-            FieldOp::Rename(from, to) => renamed(alloc, fields, from, to),
-            FieldOp::Drop(name) => dropped(alloc, fields, name),
-            FieldOp::Add(name, fill) => added(alloc, fields, name, fill),
+            FieldOp::Rename(from, to) => rename_field(alloc, fields, from, to),
+            FieldOp::Drop(name) => drop_field(alloc, fields, name),
+            FieldOp::Add(name, fill) => add_field(alloc, fields, name, fill),
             FieldOp::Learn(name, kind) => with_learned(alloc, fields, rest, name, *kind),
-            FieldOp::Forget(name) => forgotten(alloc, fields, rest, name),
+            FieldOp::Forget(name) => forget_field(alloc, fields, rest, name),
             FieldOp::Default(name, _) => at_field(alloc, self, fields, name),
             FieldOp::MayBe(name) => at_field(alloc, self, fields, name),
             FieldOp::Map(name, _) => at_field(alloc, self, fields, name),
@@ -48,7 +48,7 @@ impl FieldOp {
     fn in_common(&self, alloc: Global, on: &Record) -> Result<Record, FuncFault>
         requires { is_about_cases (field_op_of self.now) ≡ false }
         ensures made { IfOk result (λ r. new_by (field_op_of self.now) common on.now ≡ Some r) }
-        ensures misfit { IfErr result (λ e. IsFault e (new_by (field_op_of self.now) common on.now ≡ None)) }
+        ensures misfit { IfErr result (λ e. IsMisfit e (new_by (field_op_of self.now) common on.now ≡ None)) }
     {
         on.keeps();
         match self.new_fields(alloc, on.fields(), on.rest()) {
@@ -69,7 +69,7 @@ impl FieldOp {
         requires same { on.now.choice ≡ Some choice.now }
         requires found { found_case literal.now on.now.choice ≡ Some fields.now }
         ensures made { IfOk result (λ r. new_by (field_op_of self.now) (in_case literal.now) on.now ≡ Some r) }
-        ensures misfit { IfErr result (λ e. IsFault e (new_by (field_op_of self.now) (in_case literal.now) on.now
+        ensures misfit { IfErr result (λ e. IsMisfit e (new_by (field_op_of self.now) (in_case literal.now) on.now
             ≡ None)) }
     {
         on.keeps();
@@ -82,7 +82,7 @@ impl FieldOp {
     /// The record with the operation done to its common fields or its cases.
     fn on_common(&self, alloc: Global, on: &Record) -> Result<Record, FuncFault>
         ensures made { IfOk result (λ r. new_by (field_op_of self.now) common on.now ≡ Some r) }
-        ensures misfit { IfErr result (λ e. IsFault e (new_by (field_op_of self.now) common on.now ≡ None)) }
+        ensures misfit { IfErr result (λ e. IsMisfit e (new_by (field_op_of self.now) common on.now ≡ None)) }
     {
         match self {
             FieldOp::Retag(from, to) => retagged(alloc, on, from, to),
@@ -105,7 +105,7 @@ impl FieldOp {
     /// The record with the operation done to the fields of the case of the literal.
     fn on_case(&self, alloc: Global, on: &Record, literal: &Name) -> Result<Record, FuncFault>
         ensures made { IfOk result (λ r. new_by (field_op_of self.now) (in_case literal.now) on.now ≡ Some r) }
-        ensures misfit { IfErr result (λ e. IsFault e (new_by (field_op_of self.now) (in_case literal.now) on.now
+        ensures misfit { IfErr result (λ e. IsMisfit e (new_by (field_op_of self.now) (in_case literal.now) on.now
             ≡ None)) }
     {
         let Some(choice) = on.choice() else {
@@ -122,7 +122,7 @@ impl FieldFn {
     /// The record after the function. It sorts what is new, and copies the rest.
     pub fn target(&self, alloc: Global, on: &Record) -> Result<Record, FuncFault>
         ensures made { IfOk result (λ r. new_record (field_fn_of self.now) on.now ≡ Some r) }
-        ensures misfit { IfErr result (λ e. IsFault e (new_record (field_fn_of self.now) on.now ≡ None)) }
+        ensures misfit { IfErr result (λ e. IsMisfit e (new_record (field_fn_of self.now) on.now ≡ None)) }
     {
         match &self.scope {
             Scope::Common => self.op.on_common(alloc, on),

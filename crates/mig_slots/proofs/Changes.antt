@@ -1,20 +1,18 @@
 -- What stands under a name is changed at its place.
-use Rattle.std.proofs.Common.{◌≡◌, ℕ, zero, suc, ◌<◌, List, [], ◌∷◌, length, map, Bool, true, false, Some, None, Ok, Err, refl, sym, ap, subst, ◌∙◌, arith}
+use Rattle.std.proofs.Common.{◌≡◌, ℕ, zero, suc, ◌<◌, List, [], ◌∷◌, length, map, Some, None, Ok, Err, refl, sym, ap, subst, ◌∙◌, arith}
 use Rattle.std.specs.Prelude.{IfSome, if◌then◌else◌}
 use Rattle.std.specs.Ordering.{is_eq}
 use Rattle.std.specs.declared.cmp.Ordering.TheVariants.{Equal}
 use Rattle.std.proofs.lemmas.Map.Lookups.{exact_bytes}
 use Rattle.std_collections.specs.Layout.BTreeMap.{seek}
 use Rattle.std_collections.proofs.Seek.{AboveFirst, AnswersAt, seek-Ok}
-use Rattle.mig_model.specs.Names.{by_bytes}
-use Rattle.mig_model.specs.Ascends.{Ascends}
-use Rattle.mig_model.specs.Template.{same_name}
+use Rattle.mig_model.specs.Names.{by_bytes, Ascends, under, changed}
 use Rattle.mig_value.specs.Places.{value_at, with_value_at}
 use Rattle.mig_value.specs.Typed.{Typed, Slot}
 use Rattle.mig_value.specs.View.{slot_of}
 use Rattle.mig_value.specs.declared.slots.Slot as code
-use Rattle.mig_action.specs.Edits.{under, changed}
-use Rattle.mig_action.proofs.Edits.{Above, ascends-head, ascends-tail, less_differs}
+use Rattle.mig_action.specs.Moves.{Moving}
+use Rattle.mig_action.proofs.Edits.{Above, ascends-head, ascends-tail}
 use Rattle.std.proofs.lemmas.Cmp.{nat_list_cmp_total}
 use Rattle.mig_model.proofs.Searches.{not_found}
 
@@ -26,15 +24,11 @@ module _ (x : List ℕ) where
 
   changed-above : (f : Typed → Typed) (es : List Slot) → Above x es → changed x f es ≡ es
   changed-above f [] h = refl
-  changed-above f (e ∷ es) h = λ i. (e.0, if less_differs x e.0 h.0 i then f e.1 else e.1) ∷ changed-above f es h.1 i
+  changed-above f (e ∷ es) h = grind (arith, h.0, changed-above f es h.1)
 
   changed-none : (f : Typed → Typed) (es : List Slot) → under x es ≡ None → changed x f es ≡ es
   changed-none f [] h = refl
-  changed-none f (e ∷ es) h = by (same_name x e.0) h (changed-none f es)
-    where
-      by : (b : Bool) → (if b then Some e.1 else under x es) ≡ None → (under x es ≡ None → changed x f es ≡ es) → (e.0, if b then f e.1 else e.1) ∷ changed x f es ≡ e ∷ es
-      by true g rest = absurd cc
-      by false g rest = ap (λ (l : List Slot). e ∷ l) (rest g)
+  changed-none f (e ∷ es) h = grind (arith, changed-none f es)
 
   changed_here : (f : Typed → Typed) (u : Typed) (es : List Slot) (i : ℕ) → Ascends es → AboveFirst (by_bytes x) es i → AnswersAt (by_bytes x) es i Equal → with_value_at i (f (value_at i es)) (with_value_at i u es) ≡ changed x f es
   changed_here f u [] zero s a b = refl
@@ -54,14 +48,18 @@ module _ (x : List ℕ) where
       let r = seek-Ok (by_bytes x) (map slot_of xs) i (at_place xs ys n i same named at) in
       subst P (sym value) (subst (λ o. IfSome o P) (value_here (map slot_of xs) i r.0 r.1 r.2) h)
 
+  -- the slots in hand with the unknown ones beside them
+  abbrev In : List Slot → List Slot → Moving
+  In ss rs = record { slots = ss; rest = rs }
+
   -- there is no such name
-  pub unchanged : (f : Typed → Typed) (xs ys : List code.Slot) (n : List ℕ) (i : ℕ) → Ascends (map slot_of xs) → ys ≡ xs → n ≡ x → Err i ≡ seek (by_bytes n) (map slot_of ys) → map slot_of xs ≡ changed x f (map slot_of xs)
-  unchanged f xs ys n i s same named at =
-      sym (changed-none f (map slot_of xs) (not_found nat_list_cmp_total slot_of x xs i s (sym (at ∙ (λ j. seek (by_bytes (named j)) (map slot_of (same j)))))))
+  pub unchanged : (f : Typed → Typed) (xs ys : List code.Slot) (n : List ℕ) (i : ℕ) (rs : List Slot) → Ascends (map slot_of xs) → ys ≡ xs → n ≡ x → Err i ≡ seek (by_bytes n) (map slot_of ys) → In (map slot_of xs) rs ≡ In (changed x f (map slot_of xs)) rs
+  unchanged f xs ys n i rs s same named at =
+      ap (λ ss. In ss rs) (sym (changed-none f (map slot_of xs) (not_found nat_list_cmp_total slot_of x xs i s (sym (at ∙ (λ j. seek (by_bytes (named j)) (map slot_of (same j))))))))
 
   -- the value was taken out, and the new one put there
-  pub changed_by : (f : Typed → Typed) (xs ys : List code.Slot) (n : List ℕ) (i : ℕ) (u v w : Typed) (ts us : List Slot) → Ascends (map slot_of xs) → ys ≡ xs → n ≡ x → Ok i ≡ seek (by_bytes n) (map slot_of ys)
-      → v ≡ value_at i (map slot_of xs) → ts ≡ with_value_at i u (map slot_of xs) → w ≡ f v → us ≡ with_value_at i w ts → us ≡ changed x f (map slot_of xs)
-  changed_by f xs ys n i u v w ts us s same named at value taken is put =
+  pub changed_by : (f : Typed → Typed) (xs ys : List code.Slot) (n : List ℕ) (i : ℕ) (u v w : Typed) (ts us rs : List Slot) → Ascends (map slot_of xs) → ys ≡ xs → n ≡ x → Ok i ≡ seek (by_bytes n) (map slot_of ys)
+      → v ≡ value_at i (map slot_of xs) → ts ≡ with_value_at i u (map slot_of xs) → w ≡ f v → us ≡ with_value_at i w ts → In us rs ≡ In (changed x f (map slot_of xs)) rs
+  changed_by f xs ys n i u v w ts us rs s same named at value taken is put =
       let r = seek-Ok (by_bytes x) (map slot_of xs) i (at_place xs ys n i same named at) in
-      put ∙ (λ j. with_value_at i ((is ∙ ap f value) j) (taken j)) ∙ changed_here f u (map slot_of xs) i s r.1 r.2
+      ap (λ ss. In ss rs) (put ∙ (λ j. with_value_at i ((is ∙ ap f value) j) (taken j)) ∙ changed_here f u (map slot_of xs) i s r.1 r.2)

@@ -10,13 +10,9 @@ use Rattle.std.proofs.lemmas.Cmp.{nat_list_cmp_total}
 use Rattle.std.proofs.lemmas.List.Folds.{list_any_at}
 use Rattle.std.proofs.lemmas.List.Sorted.{IsNonDecreasingBy-from_all_adjacent}
 use Rattle.std.proofs.lemmas.Map.Lookups.{exact_bytes}
-use Rattle.mig_model.specs.Names.{by_bytes}
-use Rattle.mig_model.specs.Template.{same_name}
-use Rattle.mig_template.specs.Parts.{is_among}
+use Rattle.mig_model.specs.Names.{by_bytes, same_name, is_among, has_twice, Ascends}
 use Rattle.std.specs.Prelude.{IsTrue, not, map, ◌↔◌}
 use Rattle.std.specs.Map.{keys_of}
-use Rattle.mig_model.specs.Family.{has_twice}
-use Rattle.mig_model.specs.Ascends.{Ascends}
 use Rattle.mig_template.proofs.Sorted.{once_if_ascends, twice_if_not}
 use Rattle.mig_slots.specs.Sorted.{AreSorted, alone}
 

@@ -1,6 +1,6 @@
 -- The slots in hand as plain data, and what the functions ask of them.
 use Rattle.std.specs.Prelude.{map}
-use Rattle.mig_model.specs.Ascends.{Ascends}
+use Rattle.mig_model.specs.Names.{Ascends}
 use Rattle.mig_value.specs.View.{slot_of}
 use Rattle.mig_action.specs.Moves as model
 use Rattle.mig_slots.specs.declared.moving.Moving.{Moving}

@@ -1,7 +1,7 @@
 //! Slots that are dropped, added, and filled where they are absent.
 ghost use Rattle.std.specs.Prelude.{◌≡◌, [], IfOk, if◌then◌else◌};
 ghost use Rattle.mig_value.specs.View.{typed_of};
-ghost use Rattle.mig_action.specs.Edits.{has, without, put};
+ghost use Rattle.mig_model.specs.Names.{has, without, put};
 ghost use Rattle.mig_action.specs.FieldFn as op;
 ghost use Rattle.mig_action.specs.Moves.{move};
 ghost use Rattle.mig_slots.specs.View.{moving_of, IsOrdered};

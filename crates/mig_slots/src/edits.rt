@@ -2,13 +2,11 @@
 ghost use Rattle.std.specs.Prelude.{◌≡◌, ◌<◌, length, map, option_map, IfSome, OnOk};
 ghost use Rattle.std.specs.List.Sorted.{IsSearchInRange};
 ghost use Rattle.std_collections.specs.Layout.BTreeMap.{seek};
-ghost use Rattle.mig_model.specs.Ascends.{Ascends};
-ghost use Rattle.mig_model.specs.Names.{by_bytes};
+ghost use Rattle.mig_model.specs.Names.{Ascends, by_bytes, under, has, without, put};
 ghost use Rattle.mig_model.specs.Plain as plain;
 ghost use Rattle.mig_value.specs.Places.{value_at, with_value_at};
 ghost use Rattle.mig_value.specs.Typed.{atom};
 ghost use Rattle.mig_value.specs.View.{typed_of, slot_of};
-ghost use Rattle.mig_action.specs.Edits.{under, has, without, put};
 
 use crate::{Memory, Slot, Tree, Value};
 use mig_model::place_by_key;

@@ -4,7 +4,7 @@ ghost use Rattle.mig_model.specs.Leaf.{leaf_value};
 ghost use Rattle.mig_leaf.specs.View.{leaf_fn_of};
 ghost use Rattle.mig_value.specs.View.{typed_of};
 ghost use Rattle.mig_value.specs.Typed as typed;
-ghost use Rattle.mig_action.specs.Edits.{under, changed};
+ghost use Rattle.mig_model.specs.Names.{under, changed};
 ghost use Rattle.mig_action.specs.FieldFn as op;
 ghost use Rattle.mig_action.specs.Act.{unified};
 ghost use Rattle.mig_action.specs.Moves.{move, at_leaf, at_side};

@@ -1,7 +1,6 @@
 //! Names in ascending order, possibly repeated.
 ghost use Rattle.std.specs.Prelude.{◌≡◌, IfOk, IsPermutation};
-ghost use Rattle.mig_template.specs.Parts.{is_among};
-ghost use Rattle.mig_model.specs.Family.{has_twice};
+ghost use Rattle.mig_model.specs.Names.{is_among, has_twice};
 ghost use Rattle.mig_slots.specs.Sorted.{AreSorted};
 
 use mig_model::{ascends, place_by_key, sort_by_key};

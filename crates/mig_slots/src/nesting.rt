@@ -1,10 +1,8 @@
 //! Slots that become one record, and a record whose fields become slots.
 ghost use Rattle.std.specs.Prelude.{◌≡◌, ◌++◌, ◌∷◌, [], not, map, IfOk, OnOk, option_map, if◌then◌else◌};
 ghost use Rattle.std.specs.Map.{keys_of};
-ghost use Rattle.mig_model.specs.Ascends.{Ascends};
-ghost use Rattle.mig_template.specs.Parts.{is_among};
+ghost use Rattle.mig_model.specs.Names.{Ascends, is_among, under, without, put_all, those, others};
 ghost use Rattle.mig_value.specs.View.{typed_of, slot_of};
-ghost use Rattle.mig_action.specs.Edits.{under, without, put_all, those, others};
 ghost use Rattle.mig_action.specs.FieldFn as op;
 ghost use Rattle.mig_action.specs.Moves.{move, open_record, inner_slots};
 ghost use Rattle.mig_slots.specs.View.{moving_of, IsOrdered};

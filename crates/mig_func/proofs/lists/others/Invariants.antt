@@ -1,5 +1,5 @@
 use Rattle.std.proofs.Common.{◌≡◌, map, take}
-use Rattle.mig_action.specs.Edits.{others}
+use Rattle.mig_model.specs.Names.{others}
 use Rattle.mig_template.specs.View.{field_of}
 use Rattle.mig_func.proofs.lists.others.Given as goal
 

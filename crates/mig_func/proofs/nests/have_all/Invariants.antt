@@ -1,6 +1,6 @@
 use Rattle.std.proofs.Common.{◌≡◌, drop}
 use Rattle.std.specs.List.{list_all}
-use Rattle.mig_action.specs.Edits.{has}
+use Rattle.mig_model.specs.Names.{has}
 use Rattle.mig_func.proofs.nests.have_all.Given as goal
 
 abbrev pub invariant-loop-name : goal.invariant-loop-name

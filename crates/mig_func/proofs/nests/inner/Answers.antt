@@ -1,10 +1,9 @@
 use Rattle.std.proofs.Common.{◌≡◌, ◌∙◌, true, false, map, List, sym, ap}
 use Rattle.std.specs.Map.{keys_of}
-use Rattle.mig_model.specs.Family.{has_twice}
+use Rattle.mig_model.specs.Names.{has_twice, those}
 use Rattle.mig_model.specs.Template.{Field}
 use Rattle.mig_template.specs.View.{field_of}
 use Rattle.mig_template.proofs.Sorted.{once_if_ascends}
-use Rattle.mig_action.specs.Edits.{those}
 use Rattle.mig_action.proofs.Edits.{ascends-those}
 use Rattle.mig_func.proofs.Nesting.{inner_is}
 use Rattle.mig_func.proofs.Outcomes.{fault_is}

@@ -1,17 +1,16 @@
-use Rattle.std.proofs.Common.{rules, ◌≡◌, ◌∙◌, ◌++◌, Bool, false, true≢false, Option, Some, None, map, refl, sym, ap}
+use Rattle.std.proofs.Common.{rules, ◌≡◌, ◌∙◌, ◌++◌, Bool, false, Option, None, map, sym, ap, arith}
 use Rattle.std.specs.Prelude.{is_some, option_map}
 use Rattle.mig_model.specs.Template.{no_choice}
 use Rattle.mig_template.specs.Parts.{choice_of}
 use Rattle.mig_template.specs.View.{field_of}
 use Rattle.mig_template.proofs.Sorted.{once_if_ascends}
-use Rattle.mig_action.specs.Edits.{without}
+use Rattle.mig_model.specs.Names.{without}
 use Rattle.mig_action.specs.NewRecord.{unnested}
 use Rattle.mig_func.proofs.Nesting.{unnest_offers}
 use Rattle.mig_func.proofs.nests.outside.Goals as goal
 
 nothing : {A B : Type 0} (o : Option A) (f : A → B) (b : Bool) → b ≡ is_some o → b ≡ false → option_map f o ≡ None
-nothing None f b h k = refl
-nothing (Some a) f b h k = absurd (true≢false (sym h ∙ k))
+nothing o f b h k = grind arith
 
 pub returns-clause-offers : goal.returns-clause-offers
 returns-clause-offers c r =

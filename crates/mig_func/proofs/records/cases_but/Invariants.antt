@@ -1,7 +1,7 @@
 use Rattle.std.proofs.Common.{◌≡◌, map, take}
 use Rattle.std.specs.Prelude.{not}
 use Rattle.std.specs.List.{filter}
-use Rattle.mig_model.specs.Template.{same_name}
+use Rattle.mig_model.specs.Names.{same_name}
 use Rattle.mig_template.specs.View.{case_of, given_case}
 use Rattle.mig_func.proofs.records.cases_but.Given as goal
 

@@ -4,7 +4,7 @@ use Rattle.mig_model.specs.Leaf.{leaf_value}
 use Rattle.mig_leaf.specs.View.{leaf_fn_of}
 use Rattle.mig_action.specs.Moves.{at_leaf}
 use Rattle.mig_slots.specs.Fitting.{FitsAtom}
-use Rattle.mig_value.specs.Typed.{Typed, atom}
+use Rattle.mig_value.specs.Typed.{atom}
 use Rattle.mig_value.specs.View.{typed_of, slot_of}
 use Rattle.mig_slots.proofs.Changes.{asked_there, changed_by, unchanged}
 use Rattle.mig_slots.proofs.leaves.map_leaf.Goals as goal
@@ -12,9 +12,8 @@ use Rattle.mig_slots.proofs.leaves.map_leaf.Goals as goal
 pub returns-in_default : goal.returns-in_default
 returns-in_default c =
     let m = c.args.moving in
-    let f : Typed → Typed = at_leaf (leaf_value (leaf_fn_of c.args.function.now)) in
-    let same = unchanged c.args.x.now f m.slots.items c.as_slice.result.now c.bytes.result.now c.in_default.field-0 c.requires.ordered.slots c.as_slice.ensures.value c.bytes.ensures c.in_default.ensures.place in
-    λ i. record { slots = same i; rest = map slot_of m.rest.items }
+    unchanged c.args.x.now (at_leaf (leaf_value (leaf_fn_of c.args.function.now))) m.slots.items c.as_slice.result.now c.bytes.result.now c.in_default.field-0 (map slot_of m.rest.items)
+    c.requires.ordered.slots c.as_slice.ensures.value c.bytes.ensures c.in_default.ensures.place
 
 pub mapped-requires : goal.mapped-requires
 mapped-requires c =
@@ -25,9 +24,7 @@ mapped-requires c =
 pub returns : goal.returns
 returns c =
     let m = c.args.moving in
-    let f : Typed → Typed = at_leaf (leaf_value (leaf_fn_of c.args.function.now)) in
     let value = c.take_value_at-value in
-    let done =
-    changed_by c.args.x.now f m.slots.items c.as_slice.result.now c.bytes.result.now c.in-Ok.at (atom plain.null) (typed_of value.result) (typed_of c.in_ok-value.value) (map slot_of value.new.slots.items) (map slot_of c.set_value_at.new.slots.items)
-    c.requires.ordered.slots c.as_slice.ensures.value c.bytes.ensures c.in-Ok.ensures.place value.ensures.value value.ensures.rest c.in_ok-value.ensures c.set_value_at.ensures in
-    λ i. record { slots = done i; rest = map slot_of m.rest.items }
+    changed_by c.args.x.now (at_leaf (leaf_value (leaf_fn_of c.args.function.now))) m.slots.items c.as_slice.result.now c.bytes.result.now c.in-Ok.at (atom plain.null)
+    (typed_of value.result) (typed_of c.in_ok-value.value) (map slot_of value.new.slots.items) (map slot_of c.set_value_at.new.slots.items) (map slot_of m.rest.items)
+    c.requires.ordered.slots c.as_slice.ensures.value c.bytes.ensures c.in-Ok.ensures.place value.ensures.value value.ensures.rest c.in_ok-value.ensures c.set_value_at.ensures

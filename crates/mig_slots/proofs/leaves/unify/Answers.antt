@@ -4,7 +4,7 @@ use Rattle.mig_leaf.specs.View.{leaf_fn_of}
 use Rattle.mig_action.specs.Act.{unified}
 use Rattle.mig_action.specs.Moves.{at_side}
 use Rattle.mig_slots.specs.Fitting.{OneFitsSide}
-use Rattle.mig_value.specs.Typed.{Typed, atom}
+use Rattle.mig_value.specs.Typed.{atom}
 use Rattle.mig_value.specs.View.{typed_of, slot_of}
 use Rattle.mig_slots.proofs.Changes.{asked_there, changed_by, unchanged}
 use Rattle.mig_slots.proofs.leaves.unify.Goals as goal
@@ -12,9 +12,8 @@ use Rattle.mig_slots.proofs.leaves.unify.Goals as goal
 pub returns-in_default : goal.returns-in_default
 returns-in_default c =
     let m = c.args.moving in
-    let f : Typed → Typed = at_side (unified (leaf_fn_of c.args.first.now) (leaf_fn_of c.args.second.now) c.args.kind) in
-    let same = unchanged c.args.x.now f m.slots.items c.as_slice.result.now c.bytes.result.now c.in_default.field-0 c.requires.ordered.slots c.as_slice.ensures.value c.bytes.ensures c.in_default.ensures.place in
-    λ i. record { slots = same i; rest = map slot_of m.rest.items }
+    unchanged c.args.x.now (at_side (unified (leaf_fn_of c.args.first.now) (leaf_fn_of c.args.second.now) c.args.kind)) m.slots.items c.as_slice.result.now c.bytes.result.now c.in_default.field-0 (map slot_of m.rest.items)
+    c.requires.ordered.slots c.as_slice.ensures.value c.bytes.ensures c.in_default.ensures.place
 
 pub side_mapped-requires : goal.side_mapped-requires
 side_mapped-requires c =
@@ -25,9 +24,7 @@ side_mapped-requires c =
 pub returns : goal.returns
 returns c =
     let m = c.args.moving in
-    let f : Typed → Typed = at_side (unified (leaf_fn_of c.args.first.now) (leaf_fn_of c.args.second.now) c.args.kind) in
     let value = c.take_value_at-value in
-    let done =
-    changed_by c.args.x.now f m.slots.items c.as_slice.result.now c.bytes.result.now c.in-Ok.at (atom plain.null) (typed_of value.result) (typed_of c.in_ok-value.value) (map slot_of value.new.slots.items) (map slot_of c.set_value_at.new.slots.items)
-    c.requires.ordered.slots c.as_slice.ensures.value c.bytes.ensures c.in-Ok.ensures.place value.ensures.value value.ensures.rest c.in_ok-value.ensures c.set_value_at.ensures in
-    λ i. record { slots = done i; rest = map slot_of m.rest.items }
+    changed_by c.args.x.now (at_side (unified (leaf_fn_of c.args.first.now) (leaf_fn_of c.args.second.now) c.args.kind)) m.slots.items c.as_slice.result.now c.bytes.result.now c.in-Ok.at (atom plain.null)
+    (typed_of value.result) (typed_of c.in_ok-value.value) (map slot_of value.new.slots.items) (map slot_of c.set_value_at.new.slots.items) (map slot_of m.rest.items)
+    c.requires.ordered.slots c.as_slice.ensures.value c.bytes.ensures c.in-Ok.ensures.place value.ensures.value value.ensures.rest c.in_ok-value.ensures c.set_value_at.ensures

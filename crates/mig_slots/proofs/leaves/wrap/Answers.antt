@@ -1,6 +1,6 @@
 use Rattle.std.proofs.Common.{map}
 use Rattle.mig_model.specs.Plain as plain
-use Rattle.mig_value.specs.Typed.{Typed, atom, list, item, no_item}
+use Rattle.mig_value.specs.Typed.{atom, list, item, no_item}
 use Rattle.mig_value.specs.View.{typed_of, slot_of}
 use Rattle.mig_slots.proofs.Changes.{changed_by, unchanged}
 use Rattle.mig_slots.proofs.leaves.wrap.Goals as goal
@@ -8,16 +8,13 @@ use Rattle.mig_slots.proofs.leaves.wrap.Goals as goal
 pub returns-in_default : goal.returns-in_default
 returns-in_default c =
     let m = c.args.moving in
-    let f : Typed → Typed = λ v. list (item v no_item) in
-    let same = unchanged c.args.x.now f m.slots.items c.as_slice.result.now c.bytes.result.now c.in_default.field-0 c.requires.slots c.as_slice.ensures.value c.bytes.ensures c.in_default.ensures.place in
-    λ i. record { slots = same i; rest = map slot_of m.rest.items }
+    unchanged c.args.x.now (λ v. list (item v no_item)) m.slots.items c.as_slice.result.now c.bytes.result.now c.in_default.field-0 (map slot_of m.rest.items)
+    c.requires.slots c.as_slice.ensures.value c.bytes.ensures c.in_default.ensures.place
 
 pub returns : goal.returns
 returns c =
     let m = c.args.moving in
-    let f : Typed → Typed = λ v. list (item v no_item) in
     let value = c.take_value_at-value in
-    let done =
-    changed_by c.args.x.now f m.slots.items c.as_slice.result.now c.bytes.result.now c.in-Ok.at (atom plain.null) (typed_of value.result) (typed_of c.in_ok-value.value) (map slot_of value.new.slots.items) (map slot_of c.set_value_at.new.slots.items)
-    c.requires.slots c.as_slice.ensures.value c.bytes.ensures c.in-Ok.ensures.place value.ensures.value value.ensures.rest c.in_ok-value.ensures c.set_value_at.ensures in
-    λ i. record { slots = done i; rest = map slot_of m.rest.items }
+    changed_by c.args.x.now (λ v. list (item v no_item)) m.slots.items c.as_slice.result.now c.bytes.result.now c.in-Ok.at (atom plain.null)
+    (typed_of value.result) (typed_of c.in_ok-value.value) (map slot_of value.new.slots.items) (map slot_of c.set_value_at.new.slots.items) (map slot_of m.rest.items)
+    c.requires.slots c.as_slice.ensures.value c.bytes.ensures c.in-Ok.ensures.place value.ensures.value value.ensures.rest c.in_ok-value.ensures c.set_value_at.ensures

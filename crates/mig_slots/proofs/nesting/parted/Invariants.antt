@@ -1,6 +1,6 @@
 use Rattle.std.proofs.Common.{◌≡◌, map}
 use Rattle.mig_value.specs.View.{slot_of}
-use Rattle.mig_action.specs.Edits.{those, others}
+use Rattle.mig_model.specs.Names.{those, others}
 use Rattle.mig_slots.proofs.nesting.parted.Given as goal
 
 abbrev pub invariant-loop-slot : goal.invariant-loop-slot

@@ -5,7 +5,7 @@ use Rattle.mig_value.specs.View.{typed_of, slot_of}
 use Rattle.mig_value.specs.declared.value.Value.{Value}
 use Rattle.mig_value.specs.declared.value.Value.TheVariants as V
 use Rattle.mig_value.proofs.Views.{slots_again}
-use Rattle.mig_action.specs.Edits.{put_all}
+use Rattle.mig_model.specs.Names.{put_all}
 use Rattle.mig_action.specs.Moves.{inner_slots}
 use Rattle.mig_slots.proofs.nesting.with_inner.Goals as goal
 

@@ -1,115 +1,68 @@
-use Rattle.std.proofs.Common.{◌≡◌, None, map, sym, subst}
-use Rattle.mig_model.specs.declared.rest.Rest.{Rest}
-use Rattle.mig_action.specs.FieldFn.{rename, drop, add, nest, unnest}
+use Rattle.std.proofs.Common.{◌≡◌, None, map, subst}
 use Rattle.mig_action.specs.NewRecord.{at_field}
 use Rattle.mig_template.specs.View.{field_of}
 use Rattle.mig_func.specs.New.{Offers, OffersList, Refuses}
 use Rattle.mig_func.specs.Slot.{slot_after}
-use Rattle.mig_func.specs.View.{field_op_of, fill_of}
-use Rattle.mig_func.proofs.Outcomes.{ok_map, fault_map}
+use Rattle.mig_func.specs.View.{field_op_of}
+use Rattle.mig_func.proofs.Outcomes.{ok_at, fault_at}
 use Rattle.mig_func.proofs.function.FieldOp.new_fields.Goals as goal
 
-pub returns-in-Rename-clause-offers : goal.returns-in-Rename-clause-offers
-returns-in-Rename-clause-offers c =
-    let fs = c.args.fields.now in
-    ok_map c.renamed.result (λ es. (r : Rest) → Offers (rename c.in-Rename.from c.in-Rename.to) r fs (map field_of es.items)) (λ es. Offers (field_op_of c.args.self.now) c.args.rest fs (map field_of es.items))
-    (λ es h. subst (λ op. Offers (field_op_of op) c.args.rest fs (map field_of es.items)) (sym c.in-Rename.is) (h c.args.rest)) c.renamed.ensures.offers
+pub returns-in-Rename : goal.returns-in-Rename
+returns-in-Rename c = record {
+  offers = ok_at (λ op es. Offers (field_op_of op) c.args.rest c.args.fields.now (map field_of es.items)) _ _ _ c.rename_field.result c.in-Rename.is (λ es h. h c.args.rest) c.rename_field.ensures.offers;
+  misfit = fault_at (λ op. Refuses (field_op_of op) c.args.rest c.args.fields.now) _ _ _ c.rename_field.result c.in-Rename.is (λ h. h c.args.rest) c.rename_field.ensures.misfit;
+}
 
-pub returns-in-Rename-clause-misfit : goal.returns-in-Rename-clause-misfit
-returns-in-Rename-clause-misfit c =
-    let fs = c.args.fields.now in
-    fault_map c.renamed.result ((r : Rest) → Refuses (rename c.in-Rename.from c.in-Rename.to) r fs) (Refuses (field_op_of c.args.self.now) c.args.rest fs)
-    (λ h. subst (λ op. Refuses (field_op_of op) c.args.rest fs) (sym c.in-Rename.is) (h c.args.rest)) c.renamed.ensures.misfit
+pub returns-in-Drop : goal.returns-in-Drop
+returns-in-Drop c = record {
+  offers = ok_at (λ op es. Offers (field_op_of op) c.args.rest c.args.fields.now (map field_of es.items)) _ _ _ c.drop_field.result c.in-Drop.is (λ es h. h c.args.rest) c.drop_field.ensures.offers;
+  misfit = fault_at (λ op. Refuses (field_op_of op) c.args.rest c.args.fields.now) _ _ _ c.drop_field.result c.in-Drop.is (λ h. h c.args.rest) c.drop_field.ensures.misfit;
+}
 
-pub returns-in-Drop-clause-offers : goal.returns-in-Drop-clause-offers
-returns-in-Drop-clause-offers c =
-    let fs = c.args.fields.now in
-    ok_map c.dropped.result (λ es. (r : Rest) → Offers (drop c.in-Drop.name) r fs (map field_of es.items)) (λ es. Offers (field_op_of c.args.self.now) c.args.rest fs (map field_of es.items))
-    (λ es h. subst (λ op. Offers (field_op_of op) c.args.rest fs (map field_of es.items)) (sym c.in-Drop.is) (h c.args.rest)) c.dropped.ensures.offers
+pub returns-in-Add : goal.returns-in-Add
+returns-in-Add c = record {
+  offers = ok_at (λ op es. Offers (field_op_of op) c.args.rest c.args.fields.now (map field_of es.items)) _ _ _ c.add_field.result c.in-Add.is (λ es h. h c.args.rest) c.add_field.ensures.offers;
+  misfit = fault_at (λ op. Refuses (field_op_of op) c.args.rest c.args.fields.now) _ _ _ c.add_field.result c.in-Add.is (λ h. h c.args.rest) c.add_field.ensures.misfit;
+}
 
-pub returns-in-Drop-clause-misfit : goal.returns-in-Drop-clause-misfit
-returns-in-Drop-clause-misfit c =
-    let fs = c.args.fields.now in
-    fault_map c.dropped.result ((r : Rest) → Refuses (drop c.in-Drop.name) r fs) (Refuses (field_op_of c.args.self.now) c.args.rest fs)
-    (λ h. subst (λ op. Refuses (field_op_of op) c.args.rest fs) (sym c.in-Drop.is) (h c.args.rest)) c.dropped.ensures.misfit
+pub returns-in-Nest : goal.returns-in-Nest
+returns-in-Nest c = record {
+  offers = ok_at (λ op es. Offers (field_op_of op) c.args.rest c.args.fields.now (map field_of es.items)) _ _ _ c.nested.result c.in-Nest.is (λ es h. h c.args.rest) c.nested.ensures.offers;
+  misfit = fault_at (λ op. Refuses (field_op_of op) c.args.rest c.args.fields.now) _ _ _ c.nested.result c.in-Nest.is (λ h. h c.args.rest) c.nested.ensures.misfit;
+}
 
-pub returns-in-Add-clause-offers : goal.returns-in-Add-clause-offers
-returns-in-Add-clause-offers c =
-    let fs = c.args.fields.now in
-    ok_map c.added.result (λ es. (r : Rest) → Offers (add c.in-Add.name (fill_of c.in-Add.fill)) r fs (map field_of es.items)) (λ es. Offers (field_op_of c.args.self.now) c.args.rest fs (map field_of es.items))
-    (λ es h. subst (λ op. Offers (field_op_of op) c.args.rest fs (map field_of es.items)) (sym c.in-Add.is) (h c.args.rest)) c.added.ensures.offers
+pub returns-in-Unnest : goal.returns-in-Unnest
+returns-in-Unnest c = record {
+  offers = ok_at (λ op es. Offers (field_op_of op) c.args.rest c.args.fields.now (map field_of es.items)) _ _ _ c.unnested.result c.in-Unnest.is (λ es h. h c.args.rest) c.unnested.ensures.offers;
+  misfit = fault_at (λ op. Refuses (field_op_of op) c.args.rest c.args.fields.now) _ _ _ c.unnested.result c.in-Unnest.is (λ h. h c.args.rest) c.unnested.ensures.misfit;
+}
 
-pub returns-in-Add-clause-misfit : goal.returns-in-Add-clause-misfit
-returns-in-Add-clause-misfit c =
+pub returns-in-Default : goal.returns-in-Default
+returns-in-Default c =
     let fs = c.args.fields.now in
-    fault_map c.added.result ((r : Rest) → Refuses (add c.in-Add.name (fill_of c.in-Add.fill)) r fs) (Refuses (field_op_of c.args.self.now) c.args.rest fs)
-    (λ h. subst (λ op. Refuses (field_op_of op) c.args.rest fs) (sym c.in-Add.is) (h c.args.rest)) c.added.ensures.misfit
+    record {
+      offers = ok_at (λ op es. Offers (field_op_of op) c.args.rest fs (map field_of es.items)) _ _ _ c.at_field.result c.in-Default.is
+          (λ es h. subst (λ op. OffersList (at_field c.in-Default.name (slot_after (field_op_of op)) fs) fs (map field_of es.items)) c.in-Default.is h) c.at_field.ensures.offers;
+      misfit = fault_at (λ op. Refuses (field_op_of op) c.args.rest fs) _ _ _ c.at_field.result c.in-Default.is
+          (λ h taken free. subst (λ op. at_field c.in-Default.name (slot_after (field_op_of op)) fs ≡ None) c.in-Default.is h) c.at_field.ensures.misfit;
+    }
 
-pub returns-in-Nest-clause-offers : goal.returns-in-Nest-clause-offers
-returns-in-Nest-clause-offers c =
+pub returns-in-Map : goal.returns-in-Map
+returns-in-Map c =
     let fs = c.args.fields.now in
-    ok_map c.nested.result (λ es. (r : Rest) → Offers (nest c.in-Nest.names c.in-Nest.name) r fs (map field_of es.items)) (λ es. Offers (field_op_of c.args.self.now) c.args.rest fs (map field_of es.items))
-    (λ es h. subst (λ op. Offers (field_op_of op) c.args.rest fs (map field_of es.items)) (sym c.in-Nest.is) (h c.args.rest)) c.nested.ensures.offers
+    record {
+      offers = ok_at (λ op es. Offers (field_op_of op) c.args.rest fs (map field_of es.items)) _ _ _ c.at_field-in-Map.result c.in-Map.is
+          (λ es h. subst (λ op. OffersList (at_field c.in-Map.name (slot_after (field_op_of op)) fs) fs (map field_of es.items)) c.in-Map.is h) c.at_field-in-Map.ensures.offers;
+      misfit = fault_at (λ op. Refuses (field_op_of op) c.args.rest fs) _ _ _ c.at_field-in-Map.result c.in-Map.is
+          (λ h taken free. subst (λ op. at_field c.in-Map.name (slot_after (field_op_of op)) fs ≡ None) c.in-Map.is h) c.at_field-in-Map.ensures.misfit;
+    }
 
-pub returns-in-Nest-clause-misfit : goal.returns-in-Nest-clause-misfit
-returns-in-Nest-clause-misfit c =
+pub returns-in-Unify : goal.returns-in-Unify
+returns-in-Unify c =
     let fs = c.args.fields.now in
-    fault_map c.nested.result ((r : Rest) → Refuses (nest c.in-Nest.names c.in-Nest.name) r fs) (Refuses (field_op_of c.args.self.now) c.args.rest fs)
-    (λ h. subst (λ op. Refuses (field_op_of op) c.args.rest fs) (sym c.in-Nest.is) (h c.args.rest)) c.nested.ensures.misfit
-
-pub returns-in-Unnest-clause-offers : goal.returns-in-Unnest-clause-offers
-returns-in-Unnest-clause-offers c =
-    let fs = c.args.fields.now in
-    ok_map c.unnested.result (λ es. (r : Rest) → Offers (unnest c.in-Unnest.name) r fs (map field_of es.items)) (λ es. Offers (field_op_of c.args.self.now) c.args.rest fs (map field_of es.items))
-    (λ es h. subst (λ op. Offers (field_op_of op) c.args.rest fs (map field_of es.items)) (sym c.in-Unnest.is) (h c.args.rest)) c.unnested.ensures.offers
-
-pub returns-in-Unnest-clause-misfit : goal.returns-in-Unnest-clause-misfit
-returns-in-Unnest-clause-misfit c =
-    let fs = c.args.fields.now in
-    fault_map c.unnested.result ((r : Rest) → Refuses (unnest c.in-Unnest.name) r fs) (Refuses (field_op_of c.args.self.now) c.args.rest fs)
-    (λ h. subst (λ op. Refuses (field_op_of op) c.args.rest fs) (sym c.in-Unnest.is) (h c.args.rest)) c.unnested.ensures.misfit
-
-pub returns-in-Default-clause-offers : goal.returns-in-Default-clause-offers
-returns-in-Default-clause-offers c =
-    let fs = c.args.fields.now in
-    let n = c.in-Default.name in
-    ok_map c.at_field.result (λ es. OffersList (at_field n (slot_after (field_op_of c.args.self.now)) fs) fs (map field_of es.items)) (λ es. Offers (field_op_of c.args.self.now) c.args.rest fs (map field_of es.items))
-    (λ es h. subst (λ op. Offers (field_op_of op) c.args.rest fs (map field_of es.items)) (sym c.in-Default.is)
-    (subst (λ op. OffersList (at_field n (slot_after (field_op_of op)) fs) fs (map field_of es.items)) c.in-Default.is h)) c.at_field.ensures.offers
-
-pub returns-in-Default-clause-misfit : goal.returns-in-Default-clause-misfit
-returns-in-Default-clause-misfit c =
-    let fs = c.args.fields.now in
-    let n = c.in-Default.name in
-    fault_map c.at_field.result (at_field n (slot_after (field_op_of c.args.self.now)) fs ≡ None) (Refuses (field_op_of c.args.self.now) c.args.rest fs)
-    (λ h. subst (λ op. Refuses (field_op_of op) c.args.rest fs) (sym c.in-Default.is) (λ taken free. subst (λ op. at_field n (slot_after (field_op_of op)) fs ≡ None) c.in-Default.is h)) c.at_field.ensures.misfit
-
-pub returns-in-Map-clause-offers : goal.returns-in-Map-clause-offers
-returns-in-Map-clause-offers c =
-    let fs = c.args.fields.now in
-    let n = c.in-Map.name in
-    ok_map c.at_field-in-Map.result (λ es. OffersList (at_field n (slot_after (field_op_of c.args.self.now)) fs) fs (map field_of es.items)) (λ es. Offers (field_op_of c.args.self.now) c.args.rest fs (map field_of es.items))
-    (λ es h. subst (λ op. Offers (field_op_of op) c.args.rest fs (map field_of es.items)) (sym c.in-Map.is)
-    (subst (λ op. OffersList (at_field n (slot_after (field_op_of op)) fs) fs (map field_of es.items)) c.in-Map.is h)) c.at_field-in-Map.ensures.offers
-
-pub returns-in-Map-clause-misfit : goal.returns-in-Map-clause-misfit
-returns-in-Map-clause-misfit c =
-    let fs = c.args.fields.now in
-    let n = c.in-Map.name in
-    fault_map c.at_field-in-Map.result (at_field n (slot_after (field_op_of c.args.self.now)) fs ≡ None) (Refuses (field_op_of c.args.self.now) c.args.rest fs)
-    (λ h. subst (λ op. Refuses (field_op_of op) c.args.rest fs) (sym c.in-Map.is) (λ taken free. subst (λ op. at_field n (slot_after (field_op_of op)) fs ≡ None) c.in-Map.is h)) c.at_field-in-Map.ensures.misfit
-
-pub returns-in-Unify-clause-offers : goal.returns-in-Unify-clause-offers
-returns-in-Unify-clause-offers c =
-    let fs = c.args.fields.now in
-    let n = c.in-Unify.name in
-    ok_map c.at_field-in-Unify.result (λ es. OffersList (at_field n (slot_after (field_op_of c.args.self.now)) fs) fs (map field_of es.items)) (λ es. Offers (field_op_of c.args.self.now) c.args.rest fs (map field_of es.items))
-    (λ es h. subst (λ op. Offers (field_op_of op) c.args.rest fs (map field_of es.items)) (sym c.in-Unify.is)
-    (subst (λ op. OffersList (at_field n (slot_after (field_op_of op)) fs) fs (map field_of es.items)) c.in-Unify.is h)) c.at_field-in-Unify.ensures.offers
-
-pub returns-in-Unify-clause-misfit : goal.returns-in-Unify-clause-misfit
-returns-in-Unify-clause-misfit c =
-    let fs = c.args.fields.now in
-    let n = c.in-Unify.name in
-    fault_map c.at_field-in-Unify.result (at_field n (slot_after (field_op_of c.args.self.now)) fs ≡ None) (Refuses (field_op_of c.args.self.now) c.args.rest fs)
-    (λ h. subst (λ op. Refuses (field_op_of op) c.args.rest fs) (sym c.in-Unify.is) (λ taken free. subst (λ op. at_field n (slot_after (field_op_of op)) fs ≡ None) c.in-Unify.is h)) c.at_field-in-Unify.ensures.misfit
+    record {
+      offers = ok_at (λ op es. Offers (field_op_of op) c.args.rest fs (map field_of es.items)) _ _ _ c.at_field-in-Unify.result c.in-Unify.is
+          (λ es h. subst (λ op. OffersList (at_field c.in-Unify.name (slot_after (field_op_of op)) fs) fs (map field_of es.items)) c.in-Unify.is h) c.at_field-in-Unify.ensures.offers;
+      misfit = fault_at (λ op. Refuses (field_op_of op) c.args.rest fs) _ _ _ c.at_field-in-Unify.result c.in-Unify.is
+          (λ h taken free. subst (λ op. at_field c.in-Unify.name (slot_after (field_op_of op)) fs ≡ None) c.in-Unify.is h) c.at_field-in-Unify.ensures.misfit;
+    }

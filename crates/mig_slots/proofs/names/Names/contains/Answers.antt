@@ -1,6 +1,6 @@
 use Rattle.std.proofs.Common.{◌≡◌, ◌∙◌, subst, sym}
 use Rattle.mig_slots.specs.Sorted.{AreSorted}
-use Rattle.mig_template.specs.Parts.{is_among}
+use Rattle.mig_model.specs.Names.{is_among}
 use Rattle.mig_slots.proofs.SearchNames.{search_tells}
 use Rattle.mig_slots.proofs.names.Names.contains.Goals as goal
 

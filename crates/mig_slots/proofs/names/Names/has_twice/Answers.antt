@@ -1,5 +1,5 @@
 use Rattle.std.proofs.Common.{◌∙◌, ap, sym, subst}
-use Rattle.mig_model.specs.Family.{has_twice}
+use Rattle.mig_model.specs.Names.{has_twice}
 use Rattle.mig_model.proofs.Rising.{ascend_by, by_ascends}
 use Rattle.mig_slots.specs.Sorted.{AreSorted, alone}
 use Rattle.mig_slots.proofs.SearchNames.{twice_told}

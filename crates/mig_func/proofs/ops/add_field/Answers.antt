@@ -5,7 +5,7 @@ use Rattle.mig_action.specs.NewRecord.{is_clear}
 use Rattle.mig_template.specs.View.{field_of}
 use Rattle.mig_func.specs.View.{fill_of}
 use Rattle.mig_func.proofs.Offers.{add_offers}
-use Rattle.mig_func.proofs.ops.added.Goals as goal
+use Rattle.mig_func.proofs.ops.add_field.Goals as goal
 
 pub returns-clause-offers : goal.returns-clause-offers
 returns-clause-offers c r =

@@ -34,7 +34,8 @@ void *realloc(void *old, size_t size) { return fails() ? 0 : __libc_realloc(old,
 def run(program, folder, environment):
     """The status of one run, the report, and the lifted save or None."""
     shutil.rmtree(os.path.join(folder, "out"), ignore_errors=True)
-    done = subprocess.run([program, "lift", "a.mig", "in", "out", "101"], cwd=folder, stdout=subprocess.PIPE, env=environment)
+    done = subprocess.run([program, "lift", "a.mig", "in", "out", "101"], cwd=folder, stdout=subprocess.PIPE, stderr=subprocess.DEVNULL,
+                          env=environment)
     lifted = os.path.join(folder, "out", "a.dat")
     if not os.path.exists(lifted):
         return done.returncode, done.stdout, None

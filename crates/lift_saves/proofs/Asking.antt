@@ -5,27 +5,27 @@ use Rattle.std.proofs.lemmas.Slice.Eq.{bytes_eq-Decides}
 use Rattle.mig_files.specs.Held.{Held}
 use Rattle.lift_saves.specs.declared.stop.Stop.{Stop}
 use Rattle.lift_saves.specs.declared.stop.Ending.{Ending}
-use Rattle.lift_saves.specs.Command.{number_of, Asked, asked_at, asked, Asks, AsksNothing, RunsAsked, Runs}
+use Rattle.lift_saves.specs.Command.{number_of_word, Asked, asked_at, asked, Asks, AsksNothing, RunsAsked, Runs}
 use Rattle.lift_saves.proofs.Numbers.{number_found, number_complete}
 
 read_asks : (words : List (List ℕ)) (a : Asked) → asked words ≡ Some a → Asks words a
 read_asks (command ∷ chain ∷ source ∷ aim ∷ target ∷ []) a e = by (bytes_eq command (codes "lift")) refl e
   where
-    at : (o : Option ℕ) → number_of target ≡ o → command ≡ codes "lift" → asked_at chain source aim o ≡ Some a → Asks (command ∷ chain ∷ source ∷ aim ∷ target ∷ []) a
+    at : (o : Option ℕ) → number_of_word target ≡ o → command ≡ codes "lift" → asked_at chain source aim o ≡ Some a → Asks (command ∷ chain ∷ source ∷ aim ∷ target ∷ []) a
     at None h is f = absurd (let n : None ≡ Some a = f in cc)
     at (Some n) h is f =
         let same : record { chain = chain; source = source; aim = aim; target = n } ≡ a = cc in
         subst (Asks (command ∷ chain ∷ source ∷ aim ∷ target ∷ [])) same (target, (λ i. is i ∷ chain ∷ source ∷ aim ∷ target ∷ []), number_found target n h)
 
-    by : (b : Bool) → bytes_eq command (codes "lift") ≡ b → cond b (asked_at chain source aim (number_of target)) None ≡ Some a → Asks (command ∷ chain ∷ source ∷ aim ∷ target ∷ []) a
-    by true h f = at (number_of target) refl ((bytes_eq-Decides command (codes "lift")).0 h) f
+    by : (b : Bool) → bytes_eq command (codes "lift") ≡ b → cond b (asked_at chain source aim (number_of_word target)) None ≡ Some a → Asks (command ∷ chain ∷ source ∷ aim ∷ target ∷ []) a
+    by true h f = at (number_of_word target) refl ((bytes_eq-Decides command (codes "lift")).0 h) f
     by false h f = absurd (let n : None ≡ Some a = f in cc)
 read_asks words a e = absurd (let n : None ≡ Some a = e in cc)
 
 asks_read : (words : List (List ℕ)) (a : Asked) → Asks words a → asked words ≡ Some a
 asks_read words a h =
     ap asked h.1
-    ∙ ap (λ b. cond b (asked_at a.chain a.source a.aim (number_of h.0)) None) ((bytes_eq-Decides (codes "lift") (codes "lift")).1 refl)
+    ∙ ap (λ b. cond b (asked_at a.chain a.source a.aim (number_of_word h.0)) None) ((bytes_eq-Decides (codes "lift") (codes "lift")).1 refl)
     ∙ ap (asked_at a.chain a.source a.aim) (number_complete h.0 a.target h.2)
 
 pub none_read : (words : List (List ℕ)) → asked words ≡ None → AsksNothing words

@@ -1,7 +1,7 @@
 -- What the lines that a run puts tell, on any files and any report, also on those that tell nothing of what they hold.
-use Rattle.std.specs.Prelude.{◌≡◌, ◌⊎◌, ℕ, ◌+◌, Bool, true, List, [], ◌∷◌, ◌++◌, Option, Some, None, Result, Ok, Err}
+use Rattle.std.specs.Prelude.{◌≡◌, ◌⊎◌, ℕ, ◌+◌, ◌≤◌, Bool, true, List, [], ◌∷◌, ◌++◌, Option, Some, None, Result, Ok, Err, IsErrOf}
 use Rattle.std.specs.List.{list_any}
-use Rattle.mig_files.specs.Held.{RoseBy, Counts}
+use Rattle.mig_files.specs.Held.{Rose, RoseBy, Counts, NoneFell}
 use Rattle.mig_lift.specs.Lift.{Save, Cause}
 use Rattle.lift_saves.specs.declared.stop.Stop.{Stop}
 use Rattle.lift_saves.specs.declared.stop.Stop.TheVariants as stop
@@ -9,6 +9,13 @@ use Rattle.lift_saves.specs.declared.stop.Ending.{Ending}
 use Rattle.lift_saves.specs.Command.{MayRefuse, Says, ended}
 use Rattle.lift_saves.specs.Folder.{Grows, GrowsInto, is_refused}
 use Rattle.lift_saves.specs.Lines.{Listed, listed_line, listed_lines}
+
+-- no count falls, and a part of a run stops for the files or for the report only where a call of theirs failed in it
+pub record HasCauses {A : Type 0} (before now : Counts) (faults_before faults_now : ℕ) (result : Result A Stop) : Type 0 where
+  pub counts : NoneFell before now
+  pub later : faults_before ≤ faults_now
+  pub files : IsErrOf result stop.Files → Rose before.faults now.faults
+  pub report : IsErrOf result stop.Report → Rose faults_before faults_now
 
 -- a listed save that wasn't there is refused too
 abbrev pub is_refusal : Option (Result Save Cause) → Bool

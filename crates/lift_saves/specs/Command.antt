@@ -16,15 +16,15 @@ abbrev pub IsNumber : List ℕ → ℕ → Type 0
 IsNumber word n = (word ≡ decimal n) × (n ≤ last_version)
 
 -- ---- how a number is read
--- plain decimal digits behind a number, which stays at most 2147483647
+-- plain decimal digits behind a number, which stays at most the last version
 abbrev pub number_from : ℕ → List ℕ → Option ℕ
 number_from n [] = Some n
-number_from n (b ∷ bytes) = if (nat_le 48 b && nat_le b 57) && nat_le (10 * n + (b - 48)) 2147483647 then number_from (10 * n + (b - 48)) bytes else None
+number_from n (b ∷ bytes) = if (nat_le 48 b && nat_le b 57) && nat_le (10 * n + (b - 48)) last_version then number_from (10 * n + (b - 48)) bytes else None
 
 -- a number of the command line: `0`, or digits without a leading zero
-unfoldable pub number_of : List ℕ → Option ℕ
-number_of [] = None
-number_of (b ∷ bytes) = if b == 48 then (if length bytes == 0 then Some 0 else None) else number_from 0 (b ∷ bytes)
+unfoldable pub number_of_word : List ℕ → Option ℕ
+number_of_word [] = None
+number_of_word (b ∷ bytes) = if b == 48 then (if length bytes == 0 then Some 0 else None) else number_from 0 (b ∷ bytes)
 
 -- what the words ask for: a chain's file, the folder of the saves, the folder that the lifted ones go to, and a version
 pub record Asked : Type 0 where
@@ -46,7 +46,7 @@ AsksNothing words = (a : Asked) → Asks words a → ⊥
 
 -- what is read of the words
 abbrev pub asked : List (List ℕ) → Option Asked
-asked (command ∷ chain ∷ source ∷ aim ∷ target ∷ []) = if bytes_eq command (codes "lift") then asked_at chain source aim (number_of target) else None
+asked (command ∷ chain ∷ source ∷ aim ∷ target ∷ []) = if bytes_eq command (codes "lift") then asked_at chain source aim (number_of_word target) else None
 asked words = None
 
 -- a line is put, and nothing else is done

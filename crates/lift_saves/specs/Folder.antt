@@ -4,6 +4,7 @@ use Rattle.std.specs.List.{list_any, IsDistinct, AllByRecursion}
 use Rattle.std.specs.Ordering.{nat_cmp}
 use Rattle.std.specs.Cmp.Lexicographic.{slice_cmp}
 use Rattle.mig_files.specs.Held.{Key, Held, assign, is_among}
+use Rattle.mig_model.specs.declared.limits.TheConstants.{MOST_SAVE_BYTES}
 use Rattle.mig_model.specs.declared.form.Form.{Form}
 use Rattle.mig_model.specs.declared.form.Form.TheVariants as F
 use Rattle.mig_small.specs.Chain.{Chain}
@@ -15,7 +16,7 @@ use Rattle.lift_saves.specs.Lines.{save_line}
 
 -- what becomes of the bytes of a save: more than 16,777,216 of them are no file of the form
 abbrev pub outcome : Chain → ℕ → List ℕ → Result Save Cause
-outcome c target b = if nat_lt 16777216 (length b) then Err lifting.bytes else lift c target b
+outcome c target b = if nat_lt MOST_SAVE_BYTES (length b) then Err lifting.bytes else lift c target b
 
 -- one run over a folder: how a save is lifted, the form, what the files held at entry, and both folders
 pub record Job : Type 0 where

@@ -8,8 +8,8 @@ use Rattle.mig_lift.specs.Lift.{Save, Cause}
 use Rattle.mig_lift.specs.Lift as lifting
 
 -- a name as printable text
-abbrev pub spelled : List ℕ → List ℕ
-spelled name = flat_map spelled_byte name
+abbrev pub as_printed : List ℕ → List ℕ
+as_printed name = flat_map spelled_byte name
 
 abbrev pub kind_line : VersionKind → List ℕ
 kind_line V.Absent = codes "absent"
@@ -29,7 +29,7 @@ said target (Err cause) = refusal cause
 
 -- the line of a save
 abbrev pub save_line : ℕ → List ℕ → Result Save Cause → List ℕ
-save_line target name outcome = spelled name ++ said target outcome ++ 10 ∷ []
+save_line target name outcome = as_printed name ++ said target outcome ++ 10 ∷ []
 
 -- a listed save: its name, and what became of it; nothing where its read answered that nothing is there
 abbrev pub Listed : Type 0
@@ -41,7 +41,7 @@ tells target None = codes ": refused absent"
 tells target (Some outcome) = said target outcome
 
 abbrev pub listed_line : ℕ → Listed → List ℕ
-listed_line target s = spelled s.0 ++ tells target s.1 ++ 10 ∷ []
+listed_line target s = as_printed s.0 ++ tells target s.1 ++ 10 ∷ []
 
 abbrev pub listed_lines : ℕ → List Listed → List ℕ
 listed_lines target saves = flat_map (listed_line target) saves

@@ -1,8 +1,9 @@
 //! The command `lift`: the chain first, then the folder.
-ghost use Rattle.std.specs.Prelude.{◌≡◌, ◌≤◌, [], ◌∷◌, Some, IfOk, IsErrOf, Ok};
-ghost use Rattle.mig_files.specs.Held.{Held, Rose, NoneFell};
+ghost use Rattle.std.specs.Prelude.{◌≡◌, ◌≤◌, [], ◌∷◌, Some, Ok};
+ghost use Rattle.mig_files.specs.Held.{Held};
+ghost use Rattle.mig_model.specs.Version.{last_version};
 ghost use Rattle.lift_saves.specs.Command.{LiftRuns, ended};
-ghost use Rattle.lift_saves.specs.Causes.{PutsCommand};
+ghost use Rattle.lift_saves.specs.Causes.{HasCauses, PutsCommand};
 ghost use Rattle.lift_saves.specs.View.{asked_by};
 
 use crate::chain::{Due, read_chain};
@@ -34,15 +35,14 @@ pub fn lift_command<F: Files, S: Sink, L: Ledger>(
     report: &mut S,
     steps: &mut Steps<L>,
 ) -> Result<Ending, Stop>
-    requires { request.target ≤ 2147483647 }
+    requires { request.target ≤ last_version }
     ensures told { (held : Held) → F.held files.old ≡ Some held →
-        LiftRuns (asked_by request.entry) held (held (46 ∷ [], request.entry.chain.now)) (F.held files.new) (S.written report.old) (S.written report.new) result }
+        LiftRuns (asked_by request.entry) held (held (46 ∷ [], request.entry.chain.now)) (F.held files.new)
+        (S.written report.old) (S.written report.new) result }
     ensures lines { PutsCommand request.entry.target (F.counts files.old) (F.counts files.new)
         (S.written report.old) (S.written report.new) result }
-    ensures counts { NoneFell (F.counts files.old) (F.counts files.new) }
-    ensures later { S.faults report.old ≤ S.faults report.new }
-    ensures files { IsErrOf result Stop.Files → Rose (F.counts files.old).faults (F.counts files.new).faults }
-    ensures report { IsErrOf result Stop.Report → Rose (S.faults report.old) (S.faults report.new) }
+    ensures causes { HasCauses (F.counts files.old) (F.counts files.new)
+        (S.faults report.old) (S.faults report.new) result }
     ensures steps { steps.new ≡ steps.old }
 {
     match read_chain(alloc, request.chain, request.target, files)? {

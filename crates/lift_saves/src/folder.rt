@@ -1,8 +1,8 @@
 //! The saves of a folder, one after another.
-ghost use Rattle.std.specs.Prelude.{◌≡◌, ◌≤◌, Some, IfSome, IfOk, IsErrOf, map, string_bytes, Bool};
+ghost use Rattle.std.specs.Prelude.{◌≡◌, Some, IfSome, IfOk, IsErrOf, map, string_bytes};
 ghost use Rattle.mig_files.specs.Held.{Held, Rose, NoneFell};
 ghost use Rattle.lift_saves.specs.Folder.{AllSaves, AreThere, IsSaves, WholeFolder, is_save, ends_in};
-ghost use Rattle.lift_saves.specs.Causes.{PutsSaves};
+ghost use Rattle.lift_saves.specs.Causes.{HasCauses, PutsSaves};
 ghost use Rattle.lift_saves.specs.View.{job_at};
 
 use crate::save::lift_save;
@@ -73,13 +73,12 @@ fn lift_all<F: Files, S: Sink, L: Ledger>(
 ) -> Result<bool, Stop>
     ensures told { (held : Held) → F.held files.old ≡ Some held →
         AreThere held folders.entry.from.now (map string_bytes names.now) →
-        AllSaves (job_at migrator.now folders.entry.from.now folders.entry.to.now held) (map string_bytes names.now) (F.held files.new) (S.written report.old) (S.written report.new) result }
+        AllSaves (job_at migrator.now folders.entry.from.now folders.entry.to.now held) (map string_bytes names.now)
+        (F.held files.new) (S.written report.old) (S.written report.new) result }
     ensures lines { PutsSaves migrator.now.target (F.counts files.old) (F.counts files.new) (S.written report.old)
         (S.written report.new) result }
-    ensures counts { NoneFell (F.counts files.old) (F.counts files.new) }
-    ensures later { S.faults report.old ≤ S.faults report.new }
-    ensures files { IsErrOf result Stop.Files → Rose (F.counts files.old).faults (F.counts files.new).faults }
-    ensures report { IsErrOf result Stop.Report → Rose (S.faults report.old) (S.faults report.new) }
+    ensures causes { HasCauses (F.counts files.old) (F.counts files.new)
+        (S.faults report.old) (S.faults report.new) result }
     ensures steps { steps.new ≡ steps.old }
 {
     let mut refused = false;
@@ -108,13 +107,12 @@ pub fn lift_folder<F: Files, S: Sink, L: Ledger>(
     steps: &mut Steps<L>,
 ) -> Result<bool, Stop>
     ensures told { (held : Held) → F.held files.old ≡ Some held →
-        WholeFolder (job_at migrator.now folders.entry.from.now folders.entry.to.now held) (F.held files.new) (S.written report.old) (S.written report.new) result }
+        WholeFolder (job_at migrator.now folders.entry.from.now folders.entry.to.now held) (F.held files.new)
+        (S.written report.old) (S.written report.new) result }
     ensures lines { PutsSaves migrator.now.target (F.counts files.old) (F.counts files.new) (S.written report.old)
         (S.written report.new) result }
-    ensures counts { NoneFell (F.counts files.old) (F.counts files.new) }
-    ensures later { S.faults report.old ≤ S.faults report.new }
-    ensures files { IsErrOf result Stop.Files → Rose (F.counts files.old).faults (F.counts files.new).faults }
-    ensures report { IsErrOf result Stop.Report → Rose (S.faults report.old) (S.faults report.new) }
+    ensures causes { HasCauses (F.counts files.old) (F.counts files.new)
+        (S.faults report.old) (S.faults report.new) result }
     ensures steps { steps.new ≡ steps.old }
 {
     let names = list_saves(alloc, migrator.form(), folders.from, files)?;

@@ -1,21 +1,20 @@
 //! One save: read, lifted, written, and its line put.
-ghost use Rattle.std.specs.Prelude.{◌≡◌, ◌≤◌, Some, None, IfSome, IfOk, IsErrOf, IsSome};
+ghost use Rattle.std.specs.Prelude.{◌≡◌, Some, None, IfSome, IfOk, IsErrOf, IsSome};
 ghost use Rattle.mig_files.specs.Held.{Held, Rose, NoneFell};
 ghost use Rattle.mig_small.specs.Small.{chain_of};
 ghost use Rattle.lift_saves.specs.View.{found, Judges, Keeps, job_at};
 ghost use Rattle.lift_saves.specs.Folder.{OneSave, outcome};
-ghost use Rattle.lift_saves.specs.Causes.{PutsSaves, is_refusal};
+ghost use Rattle.lift_saves.specs.Causes.{HasCauses, PutsSaves, is_refusal};
 
 use crate::lines::put_save_line;
 use crate::stop::Stop;
 use crate::words::Folders;
 use mig_files::{FileFault, Files, Sink};
 use mig_lift::{LiftFault, Migrator, VersionKind};
+use mig_model::MOST_SAVE_BYTES;
 use mig_tree::{Place, Steps};
 use std::alloc::Global;
 use std::sync::ledger::Ledger;
-
-const MOST_BYTES: usize = 16_777_216;
 
 /// What a listed save is found to be: lifted from a version, or why it is refused.
 #[derive(Drop)]
@@ -42,10 +41,11 @@ fn judge<F: Files, L: Ledger>(
     ensures counts { NoneFell (F.counts files.old) (F.counts files.new) }
     ensures files { IsErrOf result Stop.Files → Rose (F.counts files.old).faults (F.counts files.new).faults }
     ensures report { IsErrOf result Stop.Report → ⊥ }
-    ensures absent { IfOk result (λ v. found v ≡ None → Rose (F.counts files.old).absent (F.counts files.new).absent) }
+    ensures absent { IfOk result (λ v. found v ≡ None →
+        Rose (F.counts files.old).absent (F.counts files.new).absent) }
     ensures steps { steps.new ≡ steps.old }
 {
-    let bytes = match files.read(alloc, from, name, MOST_BYTES) {
+    let bytes = match files.read(alloc, from, name, MOST_SAVE_BYTES) {
         Ok(bytes) => bytes,
         Err(FileFault::Failed) => return Err(Stop::Files),
         Err(FileFault::Absent) => return Ok(Verdict::Absent),
@@ -103,14 +103,14 @@ pub fn lift_save<F: Files, S: Sink, L: Ledger>(
     steps: &mut Steps<L>,
 ) -> Result<bool, Stop>
     ensures told { (held now : Held) → IsSome (held (folders.entry.from.now, name.now)) →
-        F.held files.old ≡ Some now → now (folders.entry.from.now, name.now) ≡ held (folders.entry.from.now, name.now) →
-        OneSave (job_at migrator.now folders.entry.from.now folders.entry.to.now held) name.now now (F.held files.new) (S.written report.old) (S.written report.new) result }
+        F.held files.old ≡ Some now →
+        now (folders.entry.from.now, name.now) ≡ held (folders.entry.from.now, name.now) →
+        OneSave (job_at migrator.now folders.entry.from.now folders.entry.to.now held) name.now now (F.held files.new)
+        (S.written report.old) (S.written report.new) result }
     ensures lines { PutsSaves migrator.now.target (F.counts files.old) (F.counts files.new) (S.written report.old)
         (S.written report.new) result }
-    ensures counts { NoneFell (F.counts files.old) (F.counts files.new) }
-    ensures later { S.faults report.old ≤ S.faults report.new }
-    ensures files { IsErrOf result Stop.Files → Rose (F.counts files.old).faults (F.counts files.new).faults }
-    ensures report { IsErrOf result Stop.Report → Rose (S.faults report.old) (S.faults report.new) }
+    ensures causes { HasCauses (F.counts files.old) (F.counts files.new)
+        (S.faults report.old) (S.faults report.new) result }
     ensures steps { steps.new ≡ steps.old }
 {
     let verdict = judge(alloc, migrator, folders.from, name, files, steps)?;

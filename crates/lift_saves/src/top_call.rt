@@ -1,9 +1,9 @@
 //! The top call.
-ghost use Rattle.std.specs.Prelude.{◌≡◌, ◌≤◌, None, Some, IfSome, map, string_bytes, IsErrOf};
+ghost use Rattle.std.specs.Prelude.{◌≡◌, ◌≤◌, None, Some, IfSome, map, string_bytes};
 ghost use Rattle.mig_files.specs.Held.{Held, Rose, NoneFell};
 ghost use Rattle.lift_saves.specs.Lines.{usage_line};
 ghost use Rattle.lift_saves.specs.Command.{Asked, Asks, AsksNothing, Runs, RunsAsked, Outcome, Says, asked};
-ghost use Rattle.lift_saves.specs.Causes.{PutsCommand};
+ghost use Rattle.lift_saves.specs.Causes.{HasCauses, PutsCommand};
 
 use crate::command::lift_command;
 use crate::lines::refuse;
@@ -23,15 +23,16 @@ fn answer<F: Files, S: Sink, L: Ledger>(
     steps: &mut Steps<L>,
 ) -> Result<Ending, Stop>
     ensures told { (held : Held) → F.held files.old ≡ Some held →
-        RunsAsked (asked (map string_bytes words.now)) held (F.held files.new) (S.written report.old) (S.written report.new) result }
+        RunsAsked (asked (map string_bytes words.now)) held (F.held files.new)
+        (S.written report.old) (S.written report.new) result }
     ensures usage { asked (map string_bytes words.now) ≡ None →
-        Says usage_line (S.written report.old) (S.written report.new) result × (F.held files.new ≡ F.held files.old) × (F.counts files.new ≡ F.counts files.old) }
+        Says usage_line (S.written report.old) (S.written report.new) result
+        × (F.held files.new ≡ F.held files.old) × (F.counts files.new ≡ F.counts files.old) }
     ensures lines { IfSome (asked (map string_bytes words.now)) (λ a.
-        PutsCommand a.target (F.counts files.old) (F.counts files.new) (S.written report.old) (S.written report.new) result) }
-    ensures counts { NoneFell (F.counts files.old) (F.counts files.new) }
-    ensures later { S.faults report.old ≤ S.faults report.new }
-    ensures files { IsErrOf result Stop.Files → Rose (F.counts files.old).faults (F.counts files.new).faults }
-    ensures report { IsErrOf result Stop.Report → Rose (S.faults report.old) (S.faults report.new) }
+        PutsCommand a.target (F.counts files.old) (F.counts files.new)
+        (S.written report.old) (S.written report.new) result) }
+    ensures causes { HasCauses (F.counts files.old) (F.counts files.new)
+        (S.faults report.old) (S.faults report.new) result }
     ensures steps { steps.new ≡ steps.old }
 {
     match request_of(words) {
@@ -49,15 +50,16 @@ fn ending_of_words<F: Files, S: Sink, L: Ledger>(
     steps: &mut Steps<L>,
 ) -> Result<Ending, Stop>
     ensures told { (held : Held) → F.held files.old ≡ Some held →
-        Runs (map string_bytes words.now) held (F.held files.new) (S.written report.old) (S.written report.new) result }
+        Runs (map string_bytes words.now) held (F.held files.new)
+        (S.written report.old) (S.written report.new) result }
     ensures usage { AsksNothing (map string_bytes words.now) →
-        Says usage_line (S.written report.old) (S.written report.new) result × (F.held files.new ≡ F.held files.old) × (F.counts files.new ≡ F.counts files.old) }
+        Says usage_line (S.written report.old) (S.written report.new) result
+        × (F.held files.new ≡ F.held files.old) × (F.counts files.new ≡ F.counts files.old) }
     ensures lines { (a : Asked) → Asks (map string_bytes words.now) a →
-        PutsCommand a.target (F.counts files.old) (F.counts files.new) (S.written report.old) (S.written report.new) result }
-    ensures counts { NoneFell (F.counts files.old) (F.counts files.new) }
-    ensures later { S.faults report.old ≤ S.faults report.new }
-    ensures files { IsErrOf result Stop.Files → Rose (F.counts files.old).faults (F.counts files.new).faults }
-    ensures report { IsErrOf result Stop.Report → Rose (S.faults report.old) (S.faults report.new) }
+        PutsCommand a.target (F.counts files.old) (F.counts files.new)
+        (S.written report.old) (S.written report.new) result }
+    ensures causes { HasCauses (F.counts files.old) (F.counts files.new)
+        (S.faults report.old) (S.faults report.new) result }
     ensures steps { steps.new ≡ steps.old }
 {
     answer(alloc, words, files, report, steps)
@@ -74,11 +76,14 @@ pub fn run<F: Files, S: Sink, L: Ledger>(
     steps: &mut Steps<L>,
 ) -> u8
     ensures told { (held : Held) → F.held files.old ≡ Some held →
-        Outcome (Runs (map string_bytes words.now) held (F.held files.new) (S.written report.old) (S.written report.new)) result }
+        Outcome (Runs (map string_bytes words.now) held (F.held files.new)
+        (S.written report.old) (S.written report.new)) result }
     ensures usage { AsksNothing (map string_bytes words.now) →
-        Outcome (Says usage_line (S.written report.old) (S.written report.new)) result × (F.held files.new ≡ F.held files.old) × (F.counts files.new ≡ F.counts files.old) }
+        Outcome (Says usage_line (S.written report.old) (S.written report.new)) result
+        × (F.held files.new ≡ F.held files.old) × (F.counts files.new ≡ F.counts files.old) }
     ensures lines { (a : Asked) → Asks (map string_bytes words.now) a →
-        Outcome (PutsCommand a.target (F.counts files.old) (F.counts files.new) (S.written report.old) (S.written report.new)) result }
+        Outcome (PutsCommand a.target (F.counts files.old) (F.counts files.new)
+        (S.written report.old) (S.written report.new)) result }
     ensures status { result ≤ 5 }
     ensures files { result ≡ 3 → Rose (F.counts files.old).faults (F.counts files.new).faults }
     ensures report { result ≡ 4 → Rose (S.faults report.old) (S.faults report.new) }

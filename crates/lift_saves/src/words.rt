@@ -1,9 +1,10 @@
 //! The words of the command line.
 ghost use Rattle.std.specs.Prelude.{◌≡◌, ◌≤◌, IfSome, option_map, map, string_bytes};
-ghost use Rattle.lift_saves.specs.Command.{number_of, asked};
+ghost use Rattle.mig_model.specs.Version.{last_version};
+ghost use Rattle.lift_saves.specs.Command.{number_of_word, asked};
 ghost use Rattle.lift_saves.specs.View.{asked_by};
 
-const MOST_NUMBER: u64 = 2_147_483_647;
+use mig_model::LAST_VERSION;
 
 /// The folder that saves are read from, and the one that they are written to.
 #[derive(Clone, Copy)]
@@ -21,10 +22,10 @@ pub struct Request<'a> {
 }
 
 // A plain decimal number.
-#[tactic(auto, unfolding(crate::specs::Command::number_of))]
+#[tactic(auto, unfolding(crate::specs::Command::number_of_word))]
 fn number(word: &[u8]) -> Option<u32>
-    ensures value { result ≡ number_of word.now }
-    ensures bound { IfSome result (λ n. n ≤ 2147483647) }
+    ensures value { result ≡ number_of_word word.now }
+    ensures bound { IfSome result (λ n. n ≤ last_version) }
 {
     let [first, after @ ..] = word else {
         return None;
@@ -39,7 +40,7 @@ fn number(word: &[u8]) -> Option<u32>
             return None;
         }
         let next = 10 * u64::from(n) + u64::from(*b - 48);
-        if next > MOST_NUMBER {
+        if next > u64::from(LAST_VERSION) {
             return None;
         }
         n = next as u32;
@@ -51,7 +52,7 @@ fn number(word: &[u8]) -> Option<u32>
 /// What the words ask for. The only command is `lift CHAIN FROM TO TARGET`.
 pub fn request_of<'a>(words: &'a [String]) -> Option<Request<'a>>
     ensures asked { option_map asked_by result ≡ asked (map string_bytes words.now) }
-    ensures bound { IfSome result (λ r. r.target ≤ 2147483647) }
+    ensures bound { IfSome result (λ r. r.target ≤ last_version) }
 {
     let [command, chain, from, to, target] = words else {
         return None;

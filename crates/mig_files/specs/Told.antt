@@ -27,12 +27,12 @@ pub record IsNoReading {T : Type 0} (result : Result T FileFault) : Type 0 where
   pub long : IsErrOf result file.Long → ⊥
 
 -- what a read of these bytes answers
-abbrev pub Reads : {A : Type 0} → Option (List ℕ) → ℕ → Result (Vec ℕ A) FileFault → Type 0
-Reads here limit (Ok bytes) = here ≡ Some bytes.items
-Reads here limit (Err file.Absent) = here ≡ None
-Reads here limit (Err file.Long) = (bytes : List ℕ) × (here ≡ Some bytes) × (limit < length bytes)
-Reads here limit (Err file.Failed) = Unit {0}
-Reads here limit (Err file.Memory) = Unit {0}
+abbrev pub AnswersRead : {A : Type 0} → Option (List ℕ) → ℕ → Result (Vec ℕ A) FileFault → Type 0
+AnswersRead here limit (Ok bytes) = here ≡ Some bytes.items
+AnswersRead here limit (Err file.Absent) = here ≡ None
+AnswersRead here limit (Err file.Long) = (bytes : List ℕ) × (here ≡ Some bytes) × (limit < length bytes)
+AnswersRead here limit (Err file.Failed) = Unit {0}
+AnswersRead here limit (Err file.Memory) = Unit {0}
 
 -- what a write leaves: after a failure its key is free
 abbrev pub Writes : Held → Key → List ℕ → Option Held → Result (Unit {0}) FileFault → Type 0

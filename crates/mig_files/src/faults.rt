@@ -19,6 +19,9 @@ pub enum FileFault {
     Memory,
 }
 
+/// What a call of the files answers.
+pub type FileResult<T> = Result<T, FileFault>;
+
 /// Why a sink took no bytes, or not all of them.
 #[derive(Clone, Copy, Debug, Drop, PartialEq, Eq, Error)]
 pub enum SinkFault {

@@ -2,6 +2,7 @@
 ghost use Rattle.std.specs.Prelude.{◌≡◌};
 
 use crate::{Sink, SinkFault};
+use std::io;
 use std::io::Write;
 use std::marker::Model;
 
@@ -10,6 +11,7 @@ use std::marker::Model;
 pub struct HostSink<W: Write + Drop> {
     writer: W,
     faults: u64,
+    failure: Option<io::Error>,
 }
 
 impl<W: Write + Drop> Model for HostSink<W> {
@@ -25,7 +27,16 @@ impl<W: Write + Drop> HostSink<W> {
     pub fn new(writer: W) -> Self
         ensures { result ≡ 0 }
     {
-        HostSink { writer, faults: 0 }
+        HostSink {
+            writer,
+            faults: 0,
+            failure: None,
+        }
+    }
+
+    /// Why the last put that answered `Failed` did so.
+    pub fn last_failure(&self) -> Option<io::Error> {
+        self.failure
     }
 }
 
@@ -44,7 +55,8 @@ impl<W: Write + Drop> Sink for HostSink<W> {
     {
         match self.writer.write_all(bytes) {
             Ok(()) => Ok(()),
-            Err(_) => {
+            Err(error) => {
+                self.failure = Some(error);
                 self.faults = self.faults.saturating_add(1);
                 Err(SinkFault::Failed)
             }

@@ -1,10 +1,10 @@
 //! Files in memory, which tell all that they hold.
 ghost use Rattle.std.specs.Prelude.{◌≡◌, [], ◌∷◌, ◌++◌, Some, OnOk, OnErr, option_map};
-ghost use Rattle.mig_files.specs.Held.{assign};
+ghost use Rattle.mig_files.specs.Held.{assign, next};
 ghost use Rattle.mig_files.specs.Numbered.{holds};
 
 use crate::failing::lists;
-use crate::{FileFault, Files};
+use crate::{FileFault, FileResult, Files};
 use mig_model::Memory;
 use std::alloc::{AllocError, Global};
 use std::cmp::Ordering;
@@ -93,6 +93,17 @@ impl MemoryFiles {
     {
         self.failing.push(call)?;
         Ok(())
+    }
+
+    // Counts a call that is to fail.
+    fn fail(&mut self, call: u64) -> FileFault
+        ensures fault { result ≡ FileFault.Failed }
+        ensures counted { self.new
+            ≡ record self.old { calls = call; counts = record self.old.counts { faults = next self.old.counts.faults } } }
+    {
+        self.calls = call;
+        self.faults = self.faults.saturating_add(1);
+        FileFault::Failed
     }
 }
 
@@ -186,14 +197,14 @@ impl Files for MemoryFiles {
     ghost use Rattle.std.specs.Prelude.{◌≡◌, ◌≤◌, length, map, Some, IfOk, IsErrOf, string_bytes};
     ghost use Rattle.mig_files.specs.Numbered.{holds, first_half, Numbers};
     ghost use Rattle.mig_files.specs.Held.{Lists, assign};
-    ghost use Rattle.mig_files.specs.Told.{HasCause, IsNoReading, Reads, Writes};
+    ghost use Rattle.mig_files.specs.Told.{HasCause, IsNoReading, AnswersRead, Writes};
 
     ghost held = { λ f. Some (holds f) };
 
     ghost counts = { λ f. f.counts };
 
     // Beyond the trait's clauses: it fails exactly where its number is listed.
-    fn list(&mut self, alloc: Global, folder: &str) -> Result<Vec<String>, FileFault>
+    fn list(&mut self, alloc: Global, folder: &str) -> FileResult<Vec<String>>
         ensures names { IfOk result (λ names. Lists (holds self.old) folder.now (map string_bytes names.items)) }
         ensures same { Some (holds self.new) ≡ Some (holds self.old) }
         ensures no_reading { IsNoReading result }
@@ -202,9 +213,7 @@ impl Files for MemoryFiles {
     {
         let call = self.calls.saturating_add(1);
         if lists(&self.failing, call) {
-            self.calls = call;
-            self.faults = self.faults.saturating_add(1);
-            return Err(FileFault::Failed);
+            return Err(self.fail(call));
         }
         let names = Entry::names_in(alloc, &self.entries, folder)?;
         self.calls = call;
@@ -212,14 +221,8 @@ impl Files for MemoryFiles {
     }
 
     // Beyond the trait's clauses: it fails exactly where its number is listed.
-    fn read(
-        &mut self,
-        alloc: Global,
-        folder: &str,
-        name: &str,
-        limit: usize,
-    ) -> Result<Vec<u8>, FileFault>
-        ensures bytes { Reads (holds self.old (folder.now, name.now)) limit result }
+    fn read(&mut self, alloc: Global, folder: &str, name: &str, limit: usize) -> FileResult<Vec<u8>>
+        ensures bytes { AnswersRead (holds self.old (folder.now, name.now)) limit result }
         ensures limit { IfOk result (λ bytes. length bytes.items ≤ limit) }
         ensures same { Some (holds self.new) ≡ Some (holds self.old) }
         ensures absent { IsErrOf result FileFault.Absent → self.new.counts.faults ≡ self.old.counts.faults }
@@ -228,9 +231,7 @@ impl Files for MemoryFiles {
     {
         let call = self.calls.saturating_add(1);
         if lists(&self.failing, call) {
-            self.calls = call;
-            self.faults = self.faults.saturating_add(1);
-            return Err(FileFault::Failed);
+            return Err(self.fail(call));
         }
         let Some(bytes) = Entry::bytes_in(&self.entries, folder, name) else {
             self.calls = call;
@@ -248,13 +249,7 @@ impl Files for MemoryFiles {
     }
 
     // Beyond the trait's clauses: it fails exactly where its number is listed, and leaves the first half then.
-    fn write(
-        &mut self,
-        alloc: Global,
-        folder: &str,
-        name: &str,
-        bytes: &[u8],
-    ) -> Result<(), FileFault>
+    fn write(&mut self, alloc: Global, folder: &str, name: &str, bytes: &[u8]) -> FileResult<()>
         ensures written { Writes (holds self.old) (folder.now, name.now) bytes.now (Some (holds self.new)) result }
         ensures half { IsErrOf result FileFault.Failed → holds self.new
             ≡ assign (holds self.old) (folder.now, name.now) (Some (first_half bytes.now)) }

@@ -3,7 +3,8 @@ use Rattle.std.proofs.Common.{◌≡◌, ℕ, ◌<◌, List, true, false, cond, 
 use Rattle.std.specs.Prelude.{is_some, unwrap_or, ◌||◌, ◌&&◌, nat_lt, nat_le, IsTrue}
 use Rattle.mig_model.specs.Plain.{Plain}
 use Rattle.mig_model.specs.Kinds.{IsMap}
-use Rattle.mig_model.specs.Template.{Template, any, same_name}
+use Rattle.mig_model.specs.Template.{Template, any}
+use Rattle.mig_model.specs.Names.{same_name}
 use Rattle.mig_model.specs.Inhabits.{depth}
 use Rattle.mig_fold.specs.Fold.{treat, fold_within, unless_skipped, none_skipped}
 use Rattle.mig_small.specs.Rule.{target, act, act_if, plain_rule}

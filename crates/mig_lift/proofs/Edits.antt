@@ -2,12 +2,11 @@
 use Rattle.std.proofs.Common.{◌≡◌, ℕ, List, [], ◌∷◌, Some, None, refl}
 use Rattle.std.specs.Prelude.{IsSome, if◌then◌else◌}
 use Rattle.mig_model.specs.Family.{last_name}
-use Rattle.mig_model.specs.Template.{same_name}
+use Rattle.mig_model.specs.Names.{same_name, without}
 use Rattle.mig_model.specs.Version.{spot, on_spot, strip}
 use Rattle.mig_model.specs.Plain as plain
 use Rattle.mig_model.specs.Plain.{Plain, pairs_of, entries}
 use Rattle.mig_model.specs.Kinds.{IsMap, get_in, removed, put_in, entries_of_pairs}
-use Rattle.mig_model.specs.Names.{without}
 use Rattle.mig_model.specs.Plain.{on_entries, each_entry}
 use Rattle.mig_small.specs.Function.{rename, add, act_on}
 use Rattle.mig_model.specs.Const.{const_tree, Const}

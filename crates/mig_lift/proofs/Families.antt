@@ -2,20 +2,19 @@
 use Rattle.std.proofs.Common.{◌≡◌, ℕ, List, [], ◌∷◌, false, Option, Some, None, refl, sym, ap, subst, ◌∙◌}
 use Rattle.std.specs.Map.{keys_of}
 use Rattle.std.specs.List.Sorted.{IsStrictlySortedBy}
-use Rattle.mig_model.specs.Names.{by_bytes}
+use Rattle.mig_model.specs.Names.{by_bytes, has_twice, Ascends}
 use Rattle.mig_model.specs.Template as model
 use Rattle.std.proofs.lemmas.List.Sorted.{IsPermutation-refl}
 use Rattle.mig_model.specs.declared.form.Form.{Form}
 use Rattle.mig_model.specs.declared.rest.Rest.TheVariants.{Open}
 use Rattle.mig_model.specs.Template.{fields_of, field, leaf, Choice, no_choice, rec}
-use Rattle.mig_model.specs.Family.{has_twice, IsFormed, first_flaw}
-use Rattle.mig_model.specs.Ascends.{Ascends}
+use Rattle.mig_model.specs.Family.{IsFormed, first_flaw}
 use Rattle.mig_template.specs.Parts.{RecordParts, Cases, IsRecordOf, IsChoiceOf, choice_of, record_of}
 use Rattle.mig_template.proofs.Sorted.{once_if_ascends}
 use Rattle.mig_model.proofs.OneOrder.{one_order}
 use Rattle.mig_schema.specs.declared.fault.SchemaFault.{SchemaFault}
 use Rattle.mig_schema.specs.declared.fault.SchemaFault.TheVariants as S
-use Rattle.mig_schema.specs.Fault.{IsFault}
+use Rattle.mig_schema.specs.Fault.{IsFamilyFault}
 use Rattle.mig_schema.specs.Types.{Named, family_of}
 use Rattle.mig_small.specs.Small.{Small, LeafField, Ascend, open_record, family_with}
 use Rattle.mig_small.proofs.Formed.{of_slots}
@@ -53,8 +52,8 @@ one_type n m V W p q = λ i. (p i, q i) ∷ []
 
 -- a formed family has no fault
 pub memory_only : (s : Small) (fs : List LeafField) (form : Form) (version : List (List ℕ)) (types : List Named) (root : List ℕ) (e : SchemaFault) → IsFormed (family_with s fs)
-    → form ≡ s.form → version ≡ s.version ∷ [] → types ≡ (s.root, open_record fs) ∷ [] → root ≡ s.root → IsFault e (first_flaw (family_of form version types root)) → e ≡ S.Memory
-memory_only s fs form version types root e formed p q r t fault = only e (subst (λ f. IsFault e f) none fault)
+    → form ≡ s.form → version ≡ s.version ∷ [] → types ≡ (s.root, open_record fs) ∷ [] → root ≡ s.root → IsFamilyFault e (first_flaw (family_of form version types root)) → e ≡ S.Memory
+memory_only s fs form version types root e formed p q r t fault = only e (subst (λ f. IsFamilyFault e f) none fault)
   where
     same : family_of form version types root ≡ family_with s fs
     same = λ i. record { form = p i; version = q i; types = r i; root = t i }
@@ -62,16 +61,6 @@ memory_only s fs form version types root e formed p q r t fault = only e (subst 
     none : first_flaw (family_of form version types root) ≡ None
     none = ap first_flaw same ∙ formed
 
-    only : (e : SchemaFault) → IsFault e None → e ≡ S.Memory
+    only : (e : SchemaFault) → IsFamilyFault e None → e ≡ S.Memory
     only S.Memory h = refl
-    only S.TwiceNamed h = absurd cc
-    only S.TooMany h = absurd cc
-    only S.TooDeep h = absurd cc
-    only S.WrongKind h = absurd cc
-    only S.UnknownName h = absurd cc
-    only S.Unguarded h = absurd cc
-    only S.SumOverlap h = absurd cc
-    only S.MixedList h = absurd cc
-    only S.RootNotRecord h = absurd cc
-    only S.VersionPath h = absurd cc
-    only S.VersionNameUsed h = absurd cc
+    only _ h = absurd cc

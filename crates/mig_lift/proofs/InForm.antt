@@ -51,21 +51,12 @@ one_kind (tree t ts) a w = ap (λ k. are_of_kind k ts) (kind_is t w.0) ∙ are_o
 
 mutual
   spelled_in_form : (t : Plain) → IsSpelled t → is_in_form F.Nbt t ≡ true
-  spelled_in_form (plain.byte z) w = refl
-  spelled_in_form (plain.short z) w = refl
-  spelled_in_form (plain.int z) w = refl
-  spelled_in_form (plain.long z) w = refl
-  spelled_in_form (plain.float n) w = refl
-  spelled_in_form (plain.double n) w = refl
-  spelled_in_form (plain.text b) w = refl
-  spelled_in_form (plain.bytes b) w = refl
-  spelled_in_form (plain.ints b) w = refl
-  spelled_in_form (plain.longs b) w = refl
   spelled_in_form (plain.list ts) w = rw (one_kind ts w.1 w.2, items_spelled ts w.2) refl
   spelled_in_form (plain.map ps) w = pairs_spelled ps w
   spelled_in_form plain.null w = absurd w
   spelled_in_form (plain.boolean b) w = absurd w
   spelled_in_form (plain.whole z) w = absurd w
+  spelled_in_form _ w = refl
 
   items_spelled : (ts : Trees) → AreSpelled ts → items_in_form F.Nbt ts ≡ true
   items_spelled no_tree w = refl
@@ -77,21 +68,13 @@ mutual
 
 mutual
   json_in_form : (t : Plain) → IsJson t → is_in_form F.Json t ≡ true
-  json_in_form (plain.byte z) w = absurd w
-  json_in_form (plain.short z) w = absurd w
-  json_in_form (plain.int z) w = absurd w
-  json_in_form (plain.long z) w = absurd w
-  json_in_form (plain.float n) w = absurd w
-  json_in_form (plain.double n) w = absurd w
   json_in_form (plain.text b) w = refl
-  json_in_form (plain.bytes b) w = absurd w
-  json_in_form (plain.ints b) w = absurd w
-  json_in_form (plain.longs b) w = absurd w
   json_in_form (plain.list ts) w = items_json ts w
   json_in_form (plain.map ps) w = pairs_json ps w
   json_in_form plain.null w = refl
   json_in_form (plain.boolean b) w = refl
   json_in_form (plain.whole z) w = refl
+  json_in_form _ w = absurd w
 
   items_json : (ts : Trees) → AreJson ts → items_in_form F.Json ts ≡ true
   items_json no_tree w = refl

@@ -7,10 +7,11 @@ use Rattle.mig_model.specs.declared.form.Form.{Form}
 use Rattle.mig_model.specs.declared.rest.Rest.TheVariants.{Open}
 use Rattle.mig_model.specs.Plain.{Plain}
 use Rattle.mig_model.specs.Template as template
-use Rattle.mig_model.specs.Template.{Template, no_choice, same_name}
+use Rattle.mig_model.specs.Template.{Template, no_choice}
+use Rattle.mig_model.specs.Names.{same_name}
 use Rattle.mig_model.specs.Family.{body}
 use Rattle.mig_value.specs.Typed.{Typed, atom, rec, Slots, no_slot, slot, typed_size}
-use Rattle.mig_value.specs.Fit.{Fits, FieldsFit, ChoiceFits, IsUnknown, IsAtom, IsAtomOf, EachSlot, FitWithin, FitAsRead}
+use Rattle.mig_value.specs.Fit.{ValueFits, FieldsFit, ChoiceFits, IsUnknown, IsAtom, IsAtomOf, EachSlot, FitWithin, FitAsRead}
 use Rattle.mig_value.specs.Nodes.{every, nodes, nodes_in_slots}
 use Rattle.mig_small.specs.Small.{Small, LeafField, leaf_fields, open_record, family_with}
 use Rattle.mig_lift.proofs.Accepted.{body_is}
@@ -28,11 +29,11 @@ module _ (form : Form) (P : List ℕ → Typed → Type 0) where
   field_nodes [] n v e = absurd e
   field_nodes (f ∷ fs) n v e = by (same_name n f.0) (field_nodes fs n v) e
     where
-      by : (b : Bool) → (FieldsFit (IsAtomOf form) P (leaf_fields fs) n v → nodes every v ≡ 0) → MatchBool b (Fits (IsAtomOf form) P (template.leaf f.1) v) (FieldsFit (IsAtomOf form) P (leaf_fields fs) n v) → nodes every v ≡ 0
+      by : (b : Bool) → (FieldsFit (IsAtomOf form) P (leaf_fields fs) n v → nodes every v ≡ 0) → MatchBool b (ValueFits (IsAtomOf form) P (template.leaf f.1) v) (FieldsFit (IsAtomOf form) P (leaf_fields fs) n v) → nodes every v ≡ 0
       by true rest e = atom_nodes (λ t. kind_of t ≡ f.1) v e
       by false rest e = rest e
 
-  record_nodes : (fs : List LeafField) (v : Typed) → Fits (IsAtomOf form) P (open_record fs) v → nodes every v ≡ 0
+  record_nodes : (fs : List LeafField) (v : Typed) → ValueFits (IsAtomOf form) P (open_record fs) v → nodes every v ≡ 0
   record_nodes fs (rec ss tag cs rs) e =
       rw (
         slots_nodes (FieldsFit (IsAtomOf form) P (leaf_fields fs)) (field_nodes fs) ss e.2,
@@ -49,4 +50,4 @@ no_nodes s fs v e = by (typed_size v) e
 
     by : (k : ℕ) → within k s.root v → nodes every v ≡ 0
     by zero e = absurd e
-    by (suc k) e = record_nodes s.form (within k) fs v (subst (λ V. Fits (IsAtomOf s.form) (within k) V v) (body_is s fs) e)
+    by (suc k) e = record_nodes s.form (within k) fs v (subst (λ V. ValueFits (IsAtomOf s.form) (within k) V v) (body_is s fs) e)

@@ -4,11 +4,11 @@ use Rattle.mig_model.specs.declared.form.Form.{Form}
 use Rattle.mig_model.specs.Plain as plain
 use Rattle.mig_model.specs.Plain.{Plain, pairs_of, entries}
 use Rattle.mig_model.specs.Kinds.{IsMap}
-use Rattle.mig_model.specs.Template.{same_name}
+use Rattle.mig_model.specs.Names.{same_name}
 use Rattle.mig_model.specs.Inhabits.{Entries}
 use Rattle.mig_fold.specs.Fold.{treat, treat_fields}
 use Rattle.mig_model.specs.Plain.{each_entry}
-use Rattle.mig_nbt.proofs.RoundTrip.{pairs_back}
+use Rattle.mig_tree.proofs.Places.{pairs_back}
 use Rattle.mig_small.specs.Small.{LeafField, leaf_fields, open_record}
 
 choose : {A : Type 0} (b : Bool) (x y z : A) → x ≡ z → y ≡ z → cond b x y ≡ z

@@ -9,27 +9,27 @@ use Rattle.mig_model.specs.Family.{Family, body, IsFormed}
 use Rattle.mig_small.specs.Rule.{act, plain_rule}
 use Rattle.mig_small.specs.Chain.{fixed}
 use Rattle.mig_model.specs.Place.{Place}
-use Rattle.mig_small.specs.Small.{Small, LeafField, open_record, family_with, rule_of, chain_of, IsKept, Ascend}
+use Rattle.mig_small.specs.Small.{Small, LeafField, open_record, family_with, rule_of, chain_of, ChainKept, Ascend}
 use Rattle.mig_lift.specs.declared.fault.VersionKind.{VersionKind}
 use Rattle.mig_lift.specs.declared.fault.VersionKind.TheVariants as V
 use Rattle.mig_schema.specs.Version.{version_tree}
 use Rattle.mig_lift.specs.declared.fault.LiftFault.{LiftFault}
 use Rattle.mig_lift.specs.declared.fault.LiftFault.TheVariants as fault
 use Rattle.mig_lift.specs.View.{Causes, Checks}
-use Rattle.mig_lift.specs.Lift.{version, schema, version_of, versioned, floored, placed, lift_tree}
+use Rattle.mig_lift.specs.Lift.{version, schema, version_of, lift_with_version, lift_from_floor, lift_where_it_fits, lift_tree}
 use Rattle.mig_lift.proofs.Edits.{map_without}
 use Rattle.mig_lift.proofs.Accepted.{floor_is, first_before_second, formed_before, formed_after, plain_is, fixed_is}
 
-module _ (s : Small) (kept : IsKept s) (aim : ℕ) (t : Plain) where
+module _ (s : Small) (kept : ChainKept s) (aim : ℕ) (t : Plain) where
   pub refused_version : (k : VersionKind) → version_of (chain_of s) t ≡ Err k → lift_tree (chain_of s) aim t ≡ Err (version k)
   unfolding lift_tree
-  refused_version k e = ap (versioned (chain_of s) aim t) e
+  refused_version k e = ap (lift_with_version (chain_of s) aim t) e
 
   module _ (v : ℕ) (e : version_of (chain_of s) t ≡ Ok v) where
     by_floor : (o : Option Family) → cond (nat_le s.second v) (Some (family_with s s.after)) (cond (nat_le s.first v) (Some (family_with s s.before)) None) ≡ o
-        → lift_tree (chain_of s) aim t ≡ floored (chain_of s) aim t v o
+        → lift_tree (chain_of s) aim t ≡ lift_from_floor (chain_of s) aim t v o
     unfolding lift_tree
-    by_floor o h = ap (versioned (chain_of s) aim t) e ∙ ap (floored (chain_of s) aim t v) (floor_is s v ∙ h)
+    by_floor o h = ap (lift_with_version (chain_of s) aim t) e ∙ ap (lift_from_floor (chain_of s) aim t v) (floor_is s v ∙ h)
 
     pub refused_below : v < s.first → lift_tree (chain_of s) aim t ≡ Err (version (V.Below v))
     refused_below l =
@@ -58,12 +58,12 @@ module _ (s : Small) (kept : IsKept s) (aim : ℕ) (t : Plain) where
           by_floor (Some (family_with s (fields_at (nat_lt v s.second)))) (floor_at l (nat_lt v s.second) refl) ∙ rw h refl
 
       module _ (reach : v ≤ aim) (m : IsMap t) (b : Bool) (h : nat_lt v s.second ≡ b) where
-        by_place : (p : Option Place) → place (family_with s (fields_at b)) s.root (removed s.version t) ≡ p → lift_tree (chain_of s) aim t ≡ placed (chain_of s) aim t v p
+        by_place : (p : Option Place) → place (family_with s (fields_at b)) s.root (removed s.version t) ≡ p → lift_tree (chain_of s) aim t ≡ lift_where_it_fits (chain_of s) aim t v p
         by_place p f =
             let below : nat_lt aim v ≡ false = le-ltb aim v reach in
             by_floor (Some (family_with s (fields_at b))) (floor_at l b h)
-            ∙ ap (λ c. cond c (Err (version (V.Above v))) (placed (chain_of s) aim t v (place (family_with s (fields_at b)) s.root (removed s.version t)))) below
-            ∙ ap (placed (chain_of s) aim t v) f
+            ∙ ap (λ c. cond c (Err (version (V.Above v))) (lift_where_it_fits (chain_of s) aim t v (place (family_with s (fields_at b)) s.root (removed s.version t)))) below
+            ∙ ap (lift_where_it_fits (chain_of s) aim t v) f
 
         refused_schema : (p : Place) → place (family_with s (fields_at b)) s.root (removed s.version t) ≡ Some p → lift_tree (chain_of s) aim t ≡ Err (schema p)
         refused_schema p f = by_place (Some p) f
@@ -84,10 +84,10 @@ module _ (s : Small) (kept : IsKept s) (aim : ℕ) (t : Plain) where
             by_place None f ∙ ap (λ w. Ok (put_in s.version (version_tree s.form aim) w, v)) done
 
 -- the fields of each schema ascend
-pub ascends_at : (s : Small) → IsKept s → (b : Bool) → Ascend (cond b s.before s.after)
+pub ascends_at : (s : Small) → ChainKept s → (b : Bool) → Ascend (cond b s.before s.after)
 ascends_at s kept true = kept.before
 ascends_at s kept false = kept.after
 
-pub formed_at : (s : Small) → IsKept s → (b : Bool) → IsFormed (family_with s (cond b s.before s.after))
+pub formed_at : (s : Small) → ChainKept s → (b : Bool) → IsFormed (family_with s (cond b s.before s.after))
 formed_at s kept true = formed_before s kept.accepted
 formed_at s kept false = formed_after s kept.accepted

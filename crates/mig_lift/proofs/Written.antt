@@ -14,7 +14,7 @@ use Rattle.mig_small.specs.Rule.{act}
 use Rattle.mig_json.proofs.Edits.{removed_json, put_json}
 use Rattle.mig_lift.proofs.Found.{got_json}
 use Rattle.mig_nbt.proofs.Spelled.{removed_spelled, put_spelled, got_spelled}
-use Rattle.mig_small.specs.Small.{Small, IsKept, IsSpelled, IsSpelledConst, open_record, rule_of}
+use Rattle.mig_small.specs.Small.{Small, ChainKept, IsSpelled, IsSpelledConst, open_record, rule_of}
 use Rattle.mig_schema.specs.Version.{version_tree}
 use Rattle.mig_lift.specs.Writable.{IsWritable}
 use Rattle.mig_lift.proofs.Names.{name_is}
@@ -33,32 +33,19 @@ got_written F.Nbt x u t e w = got_spelled x u t e w
 got_written F.Json x u t e w = got_json x u t e w
 
 const_written : (form : Form) (c : Const) (t : Plain) → IsTrue (is_of_form form (const_kind c)) → IsSpelledConst c → IsWritable form t → IsWritable form (const_tree c)
-const_written F.Nbt (model.byte z) t f s w = tt
-const_written F.Nbt (model.short z) t f s w = tt
-const_written F.Nbt (model.int z) t f s w = tt
-const_written F.Nbt (model.long z) t f s w = tt
 const_written F.Nbt (model.whole z) t f s w = absurd (let x : false ≡ true = f in cc)
-const_written F.Nbt (model.float n) t f s w = tt
-const_written F.Nbt (model.double n) t f s w = tt
 const_written F.Nbt (model.text b) t f s w = name_is b s
 const_written F.Nbt (model.boolean b) t f s w = absurd (let x : false ≡ true = f in cc)
 const_written F.Nbt model.null t f s w = absurd (let x : false ≡ true = f in cc)
 const_written F.Nbt model.no_bytes t f s w = omega arith
 const_written F.Nbt model.no_ints t f s w = (0, refl, omega arith)
 const_written F.Nbt model.no_longs t f s w = (0, refl, omega arith)
-const_written F.Json (model.byte z) t f s w = absurd (let x : false ≡ true = f in cc)
-const_written F.Json (model.short z) t f s w = absurd (let x : false ≡ true = f in cc)
-const_written F.Json (model.int z) t f s w = absurd (let x : false ≡ true = f in cc)
-const_written F.Json (model.long z) t f s w = absurd (let x : false ≡ true = f in cc)
+const_written F.Nbt _ t f s w = tt
 const_written F.Json (model.whole z) t f s w = tt
-const_written F.Json (model.float n) t f s w = absurd (let x : false ≡ true = f in cc)
-const_written F.Json (model.double n) t f s w = absurd (let x : false ≡ true = f in cc)
 const_written F.Json (model.text b) t f s w = s.utf8
 const_written F.Json (model.boolean b) t f s w = tt
 const_written F.Json model.null t f s w = tt
-const_written F.Json model.no_bytes t f s w = absurd (let x : false ≡ true = f in cc)
-const_written F.Json model.no_ints t f s w = absurd (let x : false ≡ true = f in cc)
-const_written F.Json model.no_longs t f s w = absurd (let x : false ≡ true = f in cc)
+const_written F.Json _ t f s w = absurd (let x : false ≡ true = f in cc)
 
 version_written : (form : Form) (n : ℕ) (t : Plain) → IsWritable form t → IsWritable form (version_tree form n)
 version_written F.Nbt n t w = tt
@@ -82,14 +69,14 @@ module _ (form : Form) where
   added_written x c t m n f s w =
       subst (IsWritable form) (added x c t m) (put_written form x (const_tree c) (removed x t) (map_without x t m) n (const_written form c t f s w) (removed_written form x t w))
 
-pub fixed_written : (s : Small) → IsKept s → (t : Plain) → IsMap t → IsWritable s.form t → IsWritable s.form (act (rule_of s) s.root (open_record s.before) t)
+pub fixed_written : (s : Small) → ChainKept s → (t : Plain) → IsMap t → IsWritable s.form t → IsWritable s.form (act (rule_of s) s.root (open_record s.before) t)
 fixed_written s kept t m w =
     let one = renamed_written s.form s.old_name s.new_name t m kept.new_name w in
     added_written s.form s.added s.constant (on_entries (act_on (rename s.old_name s.new_name)) t) one.0 kept.added kept.form kept.constant one.1
 
-pub lifted_written : (s : Small) → IsKept s → (n : ℕ) (t : Plain) → IsMap t → IsWritable s.form t → IsWritable s.form (put_in s.version (version_tree s.form n) t)
+pub lifted_written : (s : Small) → ChainKept s → (n : ℕ) (t : Plain) → IsMap t → IsWritable s.form t → IsWritable s.form (put_in s.version (version_tree s.form n) t)
 lifted_written s kept n t m w = put_written s.form s.version (version_tree s.form n) t m kept.version (version_written s.form n t w) w
 
-pub due_written : (s : Small) → IsKept s → (due : Bool) (t : Plain) → IsMap t → IsWritable s.form t → IsWritable s.form (cond due (act (rule_of s) s.root (open_record s.before) t) t)
+pub due_written : (s : Small) → ChainKept s → (due : Bool) (t : Plain) → IsMap t → IsWritable s.form t → IsWritable s.form (cond due (act (rule_of s) s.root (open_record s.before) t) t)
 due_written s kept true t m w = fixed_written s kept t m w
 due_written s kept false t m w = w

@@ -4,7 +4,7 @@ use Rattle.mig_model.specs.declared.form.Form.{Form}
 use Rattle.mig_model.specs.declared.form.Form.TheVariants as F
 use Rattle.mig_model.specs.Plain as plain
 use Rattle.mig_model.specs.Plain.{Plain}
-use Rattle.mig_model.specs.Version.{last_version, version_in, strip, put}
+use Rattle.mig_model.specs.Version.{last_version, version_in, strip, put_version}
 use Rattle.mig_model.specs.Family.{Family}
 use Rattle.mig_model.specs.Place.{Place, place}
 use Rattle.mig_small.specs.Chain.{Chain, floor_family, fixed}
@@ -60,25 +60,25 @@ version_of c t = version_at c (version_in c.version t)
 
 -- the tree without its version, after the fixes, with the target put at the version path; and the save's version
 abbrev pub lifted_from : Chain → ℕ → Plain → ℕ → Plain × ℕ
-lifted_from c target t v = (put c.version (version_tree c.form target) (fixed c v target (strip c.version t)), v)
+lifted_from c target t v = (put_version c.version (version_tree c.form target) (fixed c v target (strip c.version t)), v)
 
 -- the first wrong place refuses
-abbrev pub placed : Chain → ℕ → Plain → ℕ → Option Place → Result (Plain × ℕ) Cause
-placed c target t v None = Ok (lifted_from c target t v)
-placed c target t v (Some p) = Err (schema p)
+abbrev pub lift_where_it_fits : Chain → ℕ → Plain → ℕ → Option Place → Result (Plain × ℕ) Cause
+lift_where_it_fits c target t v None = Ok (lifted_from c target t v)
+lift_where_it_fits c target t v (Some p) = Err (schema p)
 
 -- by the family of the greatest schema not above the version
-abbrev pub floored : Chain → ℕ → Plain → ℕ → Option Family → Result (Plain × ℕ) Cause
-floored c target t v None = Err (version (V.Below v))
-floored c target t v (Some f) = if nat_lt target v then Err (version (V.Above v)) else placed c target t v (place f f.root (strip c.version t))
+abbrev pub lift_from_floor : Chain → ℕ → Plain → ℕ → Option Family → Result (Plain × ℕ) Cause
+lift_from_floor c target t v None = Err (version (V.Below v))
+lift_from_floor c target t v (Some f) = if nat_lt target v then Err (version (V.Above v)) else lift_where_it_fits c target t v (place f f.root (strip c.version t))
 
-abbrev pub versioned : Chain → ℕ → Plain → Result ℕ VersionKind → Result (Plain × ℕ) Cause
-versioned c target t (Err k) = Err (version k)
-versioned c target t (Ok v) = floored c target t v (floor_family c v)
+abbrev pub lift_with_version : Chain → ℕ → Plain → Result ℕ VersionKind → Result (Plain × ℕ) Cause
+lift_with_version c target t (Err k) = Err (version k)
+lift_with_version c target t (Ok v) = lift_from_floor c target t v (floor_family c v)
 
 -- what becomes of the tree of a save: the first cause that holds from the version on, or the lifted tree and the version before
 unfoldable pub lift_tree : Chain → ℕ → Plain → Result (Plain × ℕ) Cause
-lift_tree c target t = versioned c target t (version_of c t)
+lift_tree c target t = lift_with_version c target t (version_of c t)
 
 abbrev pub encoded : Form → List ℕ → Result (Plain × ℕ) Cause → Result Save Cause
 encoded form name (Ok x) = Ok (record { bytes = encode form name x.0; version = x.1 })

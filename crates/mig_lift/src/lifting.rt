@@ -3,6 +3,7 @@ ghost use Rattle.std.specs.Prelude.{◌≡◌, ◌≤◌, ◌&&◌, IfOk, OnOk, 
 ghost use Rattle.mig_tree.specs.View.{plain_of};
 ghost use Rattle.mig_model.specs.declared.form.Form.TheVariants.{Nbt, Json};
 ghost use Rattle.mig_model.specs.Kinds.{IsMap};
+ghost use Rattle.mig_model.specs.Version.{last_version};
 ghost use Rattle.mig_small.specs.Rule.{act};
 ghost use Rattle.mig_small.specs.Small.{chain_of, rule_of, open_record};
 ghost use Rattle.mig_small.specs.View.{field_of};
@@ -15,7 +16,6 @@ use crate::schema::read_by_schema;
 use crate::version::{strip_version, version_of, version_path};
 use crate::{LiftFault, VersionKind};
 use mig_json::JsonError;
-use mig_model::Form;
 use mig_nbt::NbtError;
 use mig_small::{SmallChain, SmallField};
 use mig_tree::{Memory, Steps, Tree};
@@ -63,7 +63,7 @@ fn lift_tree<'a, L: Ledger>(
     mut tree: Tree<'a>,
     steps: &mut Steps<L>,
 ) -> Result<(Tree<'a>, u32), LiftFault>
-    requires target { target ≤ 2147483647 }
+    requires target { target ≤ last_version }
     requires map { IsMap (plain_of tree) }
     requires writable { IsWritable chain.now.form (plain_of tree) }
     ensures lifts { LiftsTree result (lift_tree (chain_of chain.now) target (plain_of tree.entry)) }
@@ -91,14 +91,14 @@ fn lift_tree<'a, L: Ledger>(
 }
 
 /// Lifts the bytes of a save in the NBT form.
-fn lift_nbt<L: Ledger>(
+pub fn lift_nbt<L: Ledger>(
     alloc: Global,
     chain: &SmallChain,
     target: u32,
     bytes: &[u8],
     steps: &mut Steps<L>,
 ) -> Result<(Vec<u8>, u32), LiftFault>
-    requires target { target ≤ 2147483647 }
+    requires target { target ≤ last_version }
     requires form { chain.now.form ≡ Nbt }
     ensures lifts { Lifts result (lift (chain_of chain.now) target bytes.now) }
     ensures count { steps.new ≡ steps.old }
@@ -114,14 +114,14 @@ fn lift_nbt<L: Ledger>(
 }
 
 /// Lifts the bytes of a save in the JSON form.
-fn lift_json<L: Ledger>(
+pub fn lift_json<L: Ledger>(
     alloc: Global,
     chain: &SmallChain,
     target: u32,
     bytes: &[u8],
     steps: &mut Steps<L>,
 ) -> Result<(Vec<u8>, u32), LiftFault>
-    requires target { target ≤ 2147483647 }
+    requires target { target ≤ last_version }
     requires form { chain.now.form ≡ Json }
     ensures lifts { Lifts result (lift (chain_of chain.now) target bytes.now) }
     ensures count { steps.new ≡ steps.old }
@@ -135,22 +135,4 @@ fn lift_json<L: Ledger>(
     let (tree, version) = lift_tree(alloc, chain, target, tree, steps)?;
     let written = mig_json::write(alloc, &tree)?;
     Ok((written, version))
-}
-
-/// Lifts the bytes of a save.
-pub fn lift_bytes<L: Ledger>(
-    alloc: Global,
-    chain: &SmallChain,
-    target: u32,
-    bytes: &[u8],
-    steps: &mut Steps<L>,
-) -> Result<(Vec<u8>, u32), LiftFault>
-    requires { target ≤ 2147483647 }
-    ensures lifts { Lifts result (lift (chain_of chain.now) target bytes.now) }
-    ensures count { steps.new ≡ steps.old }
-{
-    match chain.form() {
-        Form::Nbt => lift_nbt(alloc, chain, target, bytes, steps),
-        Form::Json => lift_json(alloc, chain, target, bytes, steps),
-    }
 }

@@ -1,11 +1,12 @@
 //! A chain and the target of its lifts.
 ghost use Rattle.std.specs.Prelude.{◌≡◌, ◌≤◌, ◌<◌, IfOk, MatchResult};
+ghost use Rattle.mig_model.specs.Version.{last_version};
 ghost use Rattle.mig_small.specs.Small.{chain_of};
 ghost use Rattle.mig_lift.specs.declared.fault.NewFault.TheVariants.{TargetBelow};
 ghost use Rattle.mig_lift.specs.Lift.{lift};
 ghost use Rattle.mig_lift.specs.View.{Lifts};
 
-use crate::lifting::lift_bytes;
+use crate::lifting::{lift_json, lift_nbt};
 use crate::{LiftFault, NewFault};
 use mig_model::Form;
 use mig_small::SmallChain;
@@ -34,7 +35,7 @@ impl Model for Migrator {
 impl Migrator {
     /// A migrator to the target, which is a version of this project's range. `TargetBelow` gives the first schema's version.
     pub fn new(chain: SmallChain, target: u32) -> Result<Migrator, NewFault>
-        requires { target ≤ 2147483647 }
+        requires { target ≤ last_version }
         ensures { MatchResult result
             (λ m. (m ≡ record { chain = chain; target = target }) × (chain.first ≤ target))
             (λ e. (e ≡ TargetBelow chain.first) × (target < chain.first)) }
@@ -71,6 +72,9 @@ impl Migrator {
         ensures lifts { Lifts result (lift (chain_of self.now.chain) self.now.target bytes.now) }
         ensures count { steps.new ≡ steps.old }
     {
-        lift_bytes(alloc, &self.chain, self.target, bytes, steps)
+        match self.form() {
+            Form::Nbt => lift_nbt(alloc, &self.chain, self.target, bytes, steps),
+            Form::Json => lift_json(alloc, &self.chain, self.target, bytes, steps),
+        }
     }
 }

@@ -8,14 +8,11 @@ ghost use Rattle.mig_lift.specs.Lift.{number_in, version_of};
 ghost use Rattle.mig_small.specs.Small.{chain_of};
 
 use crate::VersionKind;
-use mig_model::Form;
+use mig_model::{Form, LAST_VERSION};
 use mig_schema::VersionPath;
 use mig_small::SmallChain;
 use mig_tree::{Memory, Tree};
 use std::alloc::Global;
-
-/// The greatest version, and the greatest target.
-pub const LAST_VERSION: u32 = 2_147_483_647;
 
 /// The version path of a small chain, which is one name.
 pub fn version_path(alloc: Global, chain: &SmallChain) -> Result<VersionPath, Memory>

@@ -2,7 +2,8 @@
 use Rattle.std.proofs.Common.{◌≡◌, ℕ, ◌<◌, ◌≤◌, List, [], ◌∷◌, Bool, true, false, Option, Some, None, refl, sym, ap, subst, ◌∙◌}
 use Rattle.std.specs.Prelude.{IsTrue, ◌||◌, is_some, option_map, unwrap_or, if◌then◌else◌}
 use Rattle.mig_model.specs.declared.form.Form.{Form}
-use Rattle.mig_model.specs.Template.{Template, leaf, rec, Fields, no_field, field, same_name}
+use Rattle.mig_model.specs.Template.{Template, leaf, rec, Fields, no_field, field}
+use Rattle.mig_model.specs.Names.{same_name}
 use Rattle.mig_small.specs.Rule.{target}
 use Rattle.mig_model.specs.Family.{Family, IsFormed, IsSame, find_type}
 use Rattle.mig_small.specs.Rule.{after_rule, fits_some}

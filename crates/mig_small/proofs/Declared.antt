@@ -9,7 +9,7 @@ use Rattle.mig_syntax.specs.RuleSyntax as rule
 use Rattle.mig_syntax.specs.RuleSyntax.{RuleSyntax, RulesSyntax, rules_of}
 use Rattle.mig_small.specs.Small.{LeafField}
 use Rattle.mig_small.specs.SmallText.{IsMissing, MakeRecord}
-use Rattle.mig_small.specs.Pieces.{IsDeclared, IsVersion, IsHead, IsRecord, SmallEdits, AreEdits, IsFix}
+use Rattle.mig_small.specs.Pieces.{IsDeclared, IsVersion, IsHead, IsRecordPiece, SmallEdits, AreEdits, IsFix}
 use Rattle.mig_small.proofs.Found.{One}
 
 -- the fields of a record's syntax, and the rules of a list of rules
@@ -74,23 +74,23 @@ module _ (piece : List ℕ) (d : DeclSyntax) (one : One (IsDeclared piece) d) wh
   version_other other v q = other v.0 q.0 (sym (one.1 (decl.version v.0 q.0) q.1))
 
   module _ (form : Form) where
-    same_record : (n : List ℕ) (fs : List FieldSyntax) (r : List ℕ × List LeafField) (q : IsRecord form piece r) → d ≡ named_record n fs → (r.0 ≡ n) × (q.0 ≡ fs)
+    same_record : (n : List ℕ) (fs : List FieldSyntax) (r : List ℕ × List LeafField) (q : IsRecordPiece form piece r) → d ≡ named_record n fs → (r.0 ≡ n) × (q.0 ≡ fs)
     same_record n fs r q e =
         let h : named_record r.0 q.0 ≡ named_record n fs = one.1 (named_record r.0 q.0) q.1 ∙ e in
         let k : fields_of q.0 ≡ fields_of fs = cc in
         (cc, same_fields q.0 fs k)
 
-    pub record_found : (n : List ℕ) (fs : List FieldSyntax) (gs : List LeafField) → d ≡ named_record n fs → One (MakeRecord form fs) gs → One (IsRecord form piece) (n, gs)
+    pub record_found : (n : List ℕ) (fs : List FieldSyntax) (gs : List LeafField) → d ≡ named_record n fs → One (MakeRecord form fs) gs → One (IsRecordPiece form piece) (n, gs)
     record_found n fs gs e p = (
       (fs, subst (IsDeclared piece) e one.0, p.0),
       λ r q. let same = same_record n fs r q e in
           λ i. (same.0 i, p.1 r.1 (subst (λ x. MakeRecord form x r.1) same.1 q.2) i),
     )
 
-    pub record_part : (n : List ℕ) (fs : List FieldSyntax) → d ≡ named_record n fs → (r : List ℕ × List LeafField) → IsRecord form piece r → (gs : List LeafField) × MakeRecord form fs gs
+    pub record_part : (n : List ℕ) (fs : List FieldSyntax) → d ≡ named_record n fs → (r : List ℕ × List LeafField) → IsRecordPiece form piece r → (gs : List LeafField) × MakeRecord form fs gs
     record_part n fs e r q = (r.1, subst (λ x. MakeRecord form x r.1) (same_record n fs r q e).1 q.2)
 
-    pub record_other : ((n : List ℕ) (fs : List FieldSyntax) → d ≡ named_record n fs → ⊥) → (r : List ℕ × List LeafField) → IsRecord form piece r → ⊥
+    pub record_other : ((n : List ℕ) (fs : List FieldSyntax) → d ≡ named_record n fs → ⊥) → (r : List ℕ × List LeafField) → IsRecordPiece form piece r → ⊥
     record_other other r q = other r.0 q.0 (sym (one.1 (named_record r.0 q.0) q.1))
 
     same_fix : (z : ℤ) (rs : List RuleSyntax) (f : ℕ × SmallEdits) (q : IsFix form piece f) → d ≡ numbered z rs → (pos f.0 ≡ z) × (q.0 ≡ rs)

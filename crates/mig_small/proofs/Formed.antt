@@ -14,8 +14,8 @@ use Rattle.mig_model.specs.declared.form.Form.TheVariants as F
 use Rattle.mig_model.specs.declared.kind.Kind.{Kind}
 use Rattle.mig_model.specs.declared.presence.Presence.{Presence}
 use Rattle.mig_model.specs.declared.presence.Presence.TheVariants.{Must}
-use Rattle.mig_model.specs.Names.{by_bytes}
-use Rattle.mig_model.specs.Template.{Template, leaf, any, field, Field, field_list, fields_of, same_name, is_of_form, is_leaf}
+use Rattle.mig_model.specs.Names.{by_bytes, same_name}
+use Rattle.mig_model.specs.Template.{Template, leaf, any, field, Field, field_list, fields_of, is_of_form, is_leaf}
 use Rattle.mig_model.specs.Fields.{is_field}
 use Rattle.mig_model.specs.Family as family
 use Rattle.mig_model.specs.Family.{Family, Flaw, any_in_fields, fields_nest, is_wrong_leaf, is_unknown, has_point_side, sides_overlap, is_mixed, has_flaw, first_of, flaws, IsFormed, body, uses_name, is_record, any_type, any_inside}

@@ -2,7 +2,7 @@
 use Rattle.std.proofs.Common.{◌≡◌, ℕ, zero, suc, ◌<◌, List, [], ◌∷◌, ◌++◌, length, map, get_or, Bool, true, false, Option, Some, None, refl, sym, ap, ◌∙◌, arith}
 use Rattle.std.specs.Prelude.{is_some, if◌then◌else◌}
 use Rattle.mig_model.specs.declared.kind.Kind.{Kind}
-use Rattle.mig_model.specs.Template.{same_name}
+use Rattle.mig_model.specs.Names.{same_name}
 use Rattle.mig_small.specs.Lifted.{has_field, leaf_kind}
 use Rattle.mig_small.specs.View.{field_of}
 use Rattle.mig_small.specs.declared.field.SmallField.{SmallField}

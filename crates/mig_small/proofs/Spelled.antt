@@ -36,10 +36,8 @@ in_range [] h = tt
 in_range (c ∷ cs) h = ((h.0.0, h.0.1), in_range cs h.1)
 
 spelled_token : (b : List ℕ) (t : Tok) → IsToken b t → SpelledToken t
-spelled_token b t (lexical.a_mark m) = tt
-spelled_token b t (lexical.a_name n w o) = tt
-spelled_token b t (lexical.a_number z s) = tt
 spelled_token b t (lexical.a_string s utf8 each short) = record { utf8 = utf8; characters = in_range (chars s) each; short = short }
+spelled_token b t _ = tt
 
 spelt : (b : List ℕ) (ts : List Tok) → AreTokens b ts → Spelt ts
 spelt b ts (lexical.no_token w h) = tt
@@ -86,13 +84,8 @@ SpelledDeclaration (decl.fix z f) = SpelledFix f
 SpelledDeclaration d = Unit {0}
 
 spelled_constant : (a : List Tok) (c : ConstSyntax) → Const a c → Spelt a → SpelledConstant c
-spelled_constant a c (leaf_grammar.a_number m k z w n) h = tt
-spelled_constant a c (leaf_grammar.bits m k z w n) h = tt
 spelled_constant a c (leaf_grammar.a_text s) h = h.1.0
-spelled_constant a c leaf_grammar.true_word h = tt
-spelled_constant a c leaf_grammar.false_word h = tt
-spelled_constant a c leaf_grammar.null h = tt
-spelled_constant a c (leaf_grammar.empty m k w n) h = tt
+spelled_constant a c _ h = tt
 
 spelled_fill : (a : List Tok) (f : FillSyntax) → Fill a f → Spelt a → SpelledFill f
 spelled_fill a f (function_grammar.a_const b c p) h = spelled_constant b c p h
@@ -119,13 +112,9 @@ spelled_fix a f (g.a_rule b r p) h = spelled_rule _ b r p h
 spelled_fix a f _ h = tt
 
 spelled_declaration : (a : List Tok) (d : DeclSyntax) → Declaration a d → Spelt a → SpelledDeclaration d
-spelled_declaration a d g.form_nbt h = tt
-spelled_declaration a d g.form_json h = tt
 spelled_declaration a d (g.version s n) h = h.1.0
-spelled_declaration a d (g.schema z b) h = tt
-spelled_declaration a d (g.named n b t p) h = tt
-spelled_declaration a d (g.root n) h = tt
 spelled_declaration a d (g.fix z b f p) h = spelled_fix b f p h.1.1
+spelled_declaration a d _ h = tt
 
 pub spelled : (piece : List ℕ) (d : DeclSyntax) → IsDeclared piece d → SpelledDeclaration d
 spelled piece d p = spelled_declaration p.0 d p.2 (spelt piece p.0 p.1)

@@ -4,6 +4,7 @@ use Rattle.std.specs.List.{AllByRecursion}
 use Rattle.std.specs.Prelude.{IfOk}
 use Rattle.std.specs.declared.result.Result.{Result}
 use Rattle.mig_lex.proofs.Cutting.{one_cut}
+use Rattle.mig_model.specs.declared.limits.TheConstants.{MOST_CHAIN_BYTES}
 use Rattle.mig_small.specs.declared.fault.SmallFault.{SmallFault}
 use Rattle.mig_small.specs.declared.fault.SmallFault.TheVariants.{NotYet, Memory}
 use Rattle.mig_small.specs.Chain.{Chain, IsAccepted}
@@ -15,8 +16,8 @@ use Rattle.mig_syntax.specs.RuleSyntax as rule
 use Rattle.mig_syntax.specs.RuleSyntax.{rules_of}
 use Rattle.mig_syntax.specs.DeclSyntax as decl
 use Rattle.mig_syntax.specs.DeclSyntax.{DeclSyntax}
-use Rattle.mig_small.specs.Small.{Small, chain_of, IsSpelled, IsSpelledConst, IsKept}
-use Rattle.mig_small.specs.SmallText.{IsSmallText, AreDeclarations, max_text}
+use Rattle.mig_small.specs.Small.{Small, chain_of, IsSpelled, IsSpelledConst, ChainKept}
+use Rattle.mig_small.specs.SmallText.{IsSmallText, AreDeclarations}
 use Rattle.mig_small.specs.Pieces.{Finds, IsDeclared, SmallEdits}
 use Rattle.mig_small.specs.ChainPieces.{ChainPieces, SchemaPieces, in_order, ArePieces}
 use Rattle.mig_small.proofs.Accepted.{accepted, shaped, steps_of}
@@ -41,7 +42,7 @@ fix_strings p s n =
     let told = spelled p.fix _ (subst (IsDeclared p.fix) is f.2) in
     record { new_name = told.0.1; added = told.1.0.0; constant = spelled_meaning add.0 s.constant add.2 told.1.0.1 }
 
-pub kept : (p : ChainPieces) (s : Small) → ArePieces p s → IsKept s
+pub kept : (p : ChainPieces) (s : Small) → ArePieces p s → ChainKept s
 kept p s n =
     let strings = fix_strings p s n in
     record {
@@ -56,7 +57,7 @@ kept p s n =
     }
 
 -- pieces that spell a small chain are a small chain's text
-pub whole : (text rest : List ℕ) (p : ChainPieces) (s : Small) → length text ≤ max_text → Cuts text (in_order p) rest → AllByRecursion IsWhite rest → ArePieces p s → IsSmallText text (chain_of s)
+pub whole : (text rest : List ℕ) (p : ChainPieces) (s : Small) → length text ≤ MOST_CHAIN_BYTES → Cuts text (in_order p) rest → AllByRecursion IsWhite rest → ArePieces p s → IsSmallText text (chain_of s)
 whole text rest p s short cuts blank n =
     let b = n.before.named in
     let a = n.after.named in
@@ -117,7 +118,7 @@ pub record Told (text : List ℕ) (c : Chain) : Type 0 where
   pub p : ChainPieces
   pub s : Small
   pub rest : List ℕ
-  pub short : length text ≤ max_text
+  pub short : length text ≤ MOST_CHAIN_BYTES
   pub cuts : Cuts text (in_order p) rest
   pub blank : AllByRecursion IsWhite rest
   pub is : c ≡ chain_of s
@@ -183,7 +184,7 @@ module _ (text rest : List ℕ) (p : ChainPieces) (cuts : Cuts text (in_order p)
   pieces_of : (c : Chain) (o : Told text c) → ArePieces p o.s
   pieces_of c o = subst (λ q. ArePieces q o.s) (same_pieces o.p p (one_cut text (in_order o.p) (in_order p) o.rest rest o.cuts cuts).0) o.are
 
-  pub text_found : length text ≤ max_text → AllByRecursion IsWhite rest → (r : Result Small SmallFault) → Finds (λ s. s) (ArePieces p) r → IfOk r (λ s. IsSmallText text (chain_of s))
+  pub text_found : length text ≤ MOST_CHAIN_BYTES → AllByRecursion IsWhite rest → (r : Result Small SmallFault) → Finds (λ s. s) (ArePieces p) r → IfOk r (λ s. IsSmallText text (chain_of s))
   text_found short blank (Ok s) h = whole text rest p s short cuts blank h.0
   text_found short blank (Err e) h = tt
 

@@ -3,7 +3,7 @@ use Rattle.std.specs.Prelude.{ℕ, List, Option, Some, None, option_and_then}
 use Rattle.mig_model.specs.declared.presence.Presence.TheVariants.{Must}
 use Rattle.mig_model.specs.Plain.{Plain}
 use Rattle.mig_model.specs.Const.{Const, const_kind, const_tree}
-use Rattle.mig_model.specs.Names.{found, without, with_pair}
+use Rattle.mig_model.specs.Names.{without, under, put}
 use Rattle.mig_model.specs.Template.{leaf, Fields, Choice}
 use Rattle.mig_model.specs.Fields.{find_field, without_field, with_field, is_free, if_so}
 use Rattle.mig_model.specs.Inhabits.{Entries}
@@ -21,9 +21,9 @@ new_fields (add x d) fs c = if_so (is_free x fs c) (with_field x Must (leaf (con
 -- a pair is put where there is one
 abbrev pub bring : List ℕ → Option Plain → Entries → Entries
 bring x None es = es
-bring x (Some t) es = with_pair x t es
+bring x (Some t) es = put x t es
 
 -- what a function does to a map that it fits: a name that is brought in is first taken out
 abbrev pub act_on : Function → Entries → Entries
-act_on (rename x y) es = bring y (found x es) (without y (without x es))
-act_on (add x d) es = with_pair x (const_tree d) (without x es)
+act_on (rename x y) es = bring y (under x es) (without y (without x es))
+act_on (add x d) es = put x (const_tree d) (without x es)

@@ -45,8 +45,8 @@ abbrev pub IsHead : List ℕ → ℕ → Type 0
 IsHead piece n = (n ≤ last_version) × IsDeclared piece (decl.schema (pos n) false)
 
 -- a type that is an open record of leaves
-abbrev pub IsRecord : Form → List ℕ → List ℕ × List LeafField → Type 0
-IsRecord form piece r = (fs : List FieldSyntax) × IsDeclared piece (decl.named r.0 (template.record_of (fields_of fs) template.no_choice true)) × MakeRecord form fs r.1
+abbrev pub IsRecordPiece : Form → List ℕ → List ℕ × List LeafField → Type 0
+IsRecordPiece form piece r = (fs : List FieldSyntax) × IsDeclared piece (decl.named r.0 (template.record_of (fields_of fs) template.no_choice true)) × MakeRecord form fs r.1
 
 -- the field of a text is this one: it has no `?`, and is a leaf of a kind of the form
 abbrev pub IsLeafField : Form → FieldSyntax → LeafField → Type 0
@@ -67,7 +67,7 @@ family_of form version root fields = record { form = form; version = version ∷
 
 pub record IsSchema (form : Form) (version one two three : List ℕ) (s : SmallSchema) : Type 0 where
   pub head : IsHead one s.version
-  pub named : IsRecord form two (s.root, s.fields)
+  pub named : IsRecordPiece form two (s.root, s.fields)
   pub root : IsDeclared three (decl.root s.root)
   pub formed : IsFormed (family_of form version s.root s.fields)
 

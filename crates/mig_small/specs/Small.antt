@@ -6,7 +6,7 @@ use Rattle.mig_model.specs.declared.form.Form.{Form}
 use Rattle.mig_model.specs.declared.kind.Kind.{Kind}
 use Rattle.mig_model.specs.declared.presence.Presence.TheVariants.{Must}
 use Rattle.mig_model.specs.declared.rest.Rest.TheVariants.{Open}
-use Rattle.mig_model.specs.Ascends.{Ascends}
+use Rattle.mig_model.specs.Names.{Ascends}
 use Rattle.mig_model.specs.Template.{Template, leaf, rec, Fields, no_field, field, no_choice, is_of_form}
 use Rattle.mig_model.specs.Const.{Const, text, const_kind}
 use Rattle.mig_small.specs.Function.{rename, add}
@@ -78,7 +78,7 @@ IsSpelledConst (text s) = IsSpelled s
 IsSpelledConst c = Unit {0}
 
 -- what every small chain of the program keeps
-pub record IsKept (s : Small) : Type 0 where
+pub record ChainKept (s : Small) : Type 0 where
   pub accepted : IsAccepted (chain_of s)
   pub before : Ascend s.before
   pub after : Ascend s.after

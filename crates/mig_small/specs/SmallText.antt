@@ -2,6 +2,7 @@
 use Rattle.std.specs.Prelude.{◌≡◌, ◌<◌, ◌≤◌, ◌^◌, ℕ, ℤ, pos, List, [], ◌∷◌, length, true, false, Option, Some, None, IsTrue, IsPermutation, FitsSigned}
 use Rattle.std.specs.Int.{w8, w16, w32, w64}
 use Rattle.std.specs.List.{AllByRecursion}
+use Rattle.mig_model.specs.declared.limits.TheConstants.{MOST_CHAIN_BYTES}
 use Rattle.mig_model.specs.declared.form.Form.{Form}
 use Rattle.mig_model.specs.declared.kind.Kind.TheVariants as K
 use Rattle.mig_model.specs.Template.{is_of_form}
@@ -102,16 +103,12 @@ AreDeclarations [] [] = Unit {0}
 AreDeclarations (b ∷ bs) (d ∷ ds) = ((ts : List Tok) × AreTokens b ts × Declaration ts d) × AreDeclarations bs ds
 AreDeclarations _ _ = ⊥
 
--- the length of the longest text, in bytes
-abbrev pub max_text : ℕ
-max_text = 1048576
-
 -- the text is a small chain: an accepted text of the nine declarations, whose chain is c
 pub record IsSmallText (text : List ℕ) (c : Chain) : Type 0 where
   pub pieces : List (List ℕ)
   pub rest : List ℕ
   pub declarations : List DeclSyntax
-  pub short : length text ≤ max_text
+  pub short : length text ≤ MOST_CHAIN_BYTES
   pub cuts : Cuts text pieces rest
   pub blank : AllByRecursion IsWhite rest
   pub each : AreDeclarations pieces declarations

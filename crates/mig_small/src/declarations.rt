@@ -4,7 +4,7 @@ ghost use Rattle.mig_model.specs.Version.{last_version};
 ghost use Rattle.mig_syntax.specs.DeclSyntax as decl;
 ghost use Rattle.mig_syntax.specs.DeclView.{decl_of};
 ghost use Rattle.mig_small.specs.SmallText.{IsMissing};
-ghost use Rattle.mig_small.specs.Pieces.{Finds, IsDeclared, IsVersion, IsHead, IsRecord, IsFix};
+ghost use Rattle.mig_small.specs.Pieces.{Finds, IsDeclared, IsVersion, IsHead, IsRecordPiece, IsFix};
 ghost use Rattle.mig_small.specs.View.{field_of};
 ghost use Rattle.mig_small.specs.Views.{edits_of};
 
@@ -13,7 +13,7 @@ use crate::record::record;
 use crate::shape::{as_fix, as_form, as_head, as_record, as_root, as_version};
 use crate::{SmallFault, SmallField};
 use mig_lex::tokens;
-use mig_model::{Form, Name};
+use mig_model::{Form, LAST_VERSION, Name};
 use mig_parse::{Decl, declaration};
 use std::alloc::Global;
 
@@ -36,15 +36,12 @@ pub(crate) fn form_declared(alloc: Global, piece: &[u8]) -> Result<Form, SmallFa
     }
 }
 
-/// The greatest version.
-const LAST_VERSION: i128 = 2_147_483_647;
-
 /// The number as a version, where it is one.
 pub(crate) fn version_number(number: i128) -> Option<u32>
     ensures { MatchOption result ((n : ℕ) → number ≡ pos n → n ≤ last_version → ⊥)
         (λ n. (number ≡ pos n) × (n ≤ last_version)) }
 {
-    if number < 0 || number > LAST_VERSION {
+    if number < 0 || number > i128::from(LAST_VERSION) {
         return None;
     }
     Some(number as u32)
@@ -105,7 +102,7 @@ pub(crate) fn record_declared(
     form: Form,
     piece: &[u8],
 ) -> Result<(Name, Vec<SmallField>), SmallFault>
-    ensures { Finds (λ x. (x.0, map field_of x.1.items)) (IsRecord form piece.now) result }
+    ensures { Finds (λ x. (x.0, map field_of x.1.items)) (IsRecordPiece form piece.now) result }
 {
     match as_record(declared(alloc, piece)?) {
         Some((name, fields)) => {

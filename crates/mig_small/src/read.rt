@@ -13,10 +13,8 @@ use crate::declarations::{fix_declared, form_declared, version_declared};
 use crate::schema::read_schema;
 use crate::{SmallChain, SmallFault};
 use mig_lex::{cut, is_blank};
+use mig_model::MOST_CHAIN_BYTES;
 use std::alloc::Global;
-
-/// The length of the longest text, in bytes: this project's own limit.
-const MAX_TEXT: usize = 1_048_576;
 
 /// The small chain that the pieces spell.
 fn read_chain(alloc: Global, pieces: &ChainText) -> Result<SmallChain, SmallFault>
@@ -39,7 +37,7 @@ pub fn read_small(alloc: Global, text: &[u8]) -> Result<SmallChain, SmallFault>
     ensures not_yet { result ≡ Err SmallFault.NotYet → (c : Chain) → IsSmallText text.now c → ⊥ }
     ensures only { IfOk result (λ s. (c : Chain) → IsSmallText text.now c → c ≡ chain_of s) }
 {
-    if text.len() > MAX_TEXT {
+    if text.len() > MOST_CHAIN_BYTES {
         return Err(SmallFault::NotYet);
     }
     let pieces = cut(alloc, text)?;

@@ -26,7 +26,7 @@ pub struct SmallChain {
 }
 
 impl Model for SmallChain {
-    ghost use Rattle.mig_small.specs.Small.{Small, IsKept};
+    ghost use Rattle.mig_small.specs.Small.{Small, ChainKept};
 
     ghost Value = { Small };
 
@@ -34,13 +34,13 @@ impl Model for SmallChain {
 
     ghost view = { small_of };
 
-    ghost invariant = { λ a. IsKept (small_of a) };
+    ghost invariant = { λ a. ChainKept (small_of a) };
 }
 
 impl SmallChain {
     ghost use Rattle.mig_leaf.specs.View.{const_of};
     ghost use Rattle.mig_small.specs.View.{field_of};
-    ghost use Rattle.mig_small.specs.Small.{IsKept};
+    ghost use Rattle.mig_small.specs.Small.{ChainKept};
     ghost use Rattle.mig_small.specs.ChainPieces.{small_with};
     ghost use Rattle.mig_small.specs.Views.{edits_of, schema_of};
 
@@ -53,7 +53,7 @@ impl SmallChain {
         edits: Edits,
         after: Schema,
     ) -> SmallChain
-        requires { IsKept (small_with form version missing (schema_of before) (edits_of edits) (schema_of after)) }
+        requires { ChainKept (small_with form version missing (schema_of before) (edits_of edits) (schema_of after)) }
         ensures { result ≡ small_with form version missing (schema_of before) (edits_of edits) (schema_of after) }
     {
         let Schema {
@@ -169,7 +169,7 @@ impl SmallChain {
 
     /// Does nothing. Its contract tells what every small chain keeps.
     pub fn keeps(&self)
-        ensures { IsKept self.now }
+        ensures { ChainKept self.now }
     {
         let _form = self.form;
     }

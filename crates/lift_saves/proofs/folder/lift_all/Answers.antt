@@ -34,8 +34,8 @@ loop-name-preserved g c = (
       (one_more job done c.as_str.result.now (g.F.Files.held c.loop-name.files) (g.F.Files.held c.lift_save.new.files) (g.S.Sink.written c.args.report.now) (g.S.Sink.written c.loop-name.report) (g.S.Sink.written c.lift_save.new.report) c.loop-name.refused c.in_ok-one.one d s)),
   saves_more c.args.migrator.now.target (g.F.Files.counts c.args.files.now) (g.F.Files.counts c.loop-name.files) (g.F.Files.counts c.lift_save.new.files) (g.S.Sink.written c.args.report.now) (g.S.Sink.written c.loop-name.report) (g.S.Sink.written c.lift_save.new.report)
       c.loop-name.refused c.loop-name.invariant.1 c.in_ok-one.one c.in_ok-one.ensures.lines,
-  fell_not c.loop-name.invariant.2 c.in_ok-one.ensures.counts,
-  omega (arith, c.loop-name.invariant.3, c.in_ok-one.ensures.later),
+  fell_not c.loop-name.invariant.2 c.in_ok-one.ensures.causes.counts,
+  omega (arith, c.loop-name.invariant.3, c.in_ok-one.ensures.causes.later),
   c.in_ok-one.ensures.steps ∙ c.loop-name.invariant.4,
 )
 

@@ -6,7 +6,7 @@ use Rattle.mig_model.specs.Place.{place}
 use Rattle.mig_model.specs.Family.{IsFormed}
 use Rattle.mig_small.specs.Small.{rule_of, chain_of, open_record, family_with, Ascend}
 use Rattle.std.specs.Prelude.{IsSome}
-use Rattle.mig_model.specs.Version.{strip, put, spot}
+use Rattle.mig_model.specs.Version.{strip, put_version, spot}
 use Rattle.mig_schema.specs.Version.{version_tree}
 use Rattle.mig_lift.specs.Lift.{lift_tree}
 use Rattle.mig_lift.proofs.Edits.{map_is_spot}
@@ -69,7 +69,7 @@ read_is g c = c.in_ok-tree.ensures.checks.0 ∙ c.strip_version.ensures.rest ∙
 target_put : (g : Over) (c : After-drop-path-inside-2 g) → plain_of c.put.new.tree ≡ put_in c.args.chain.now.version (version_tree c.args.chain.now.form c.args.target) (plain_of c.fix_if.new.tree)
 target_put g c =
     c.in_ok-put.ensures.ok
-    ∙ ap (λ p. put p (version_tree c.form.result c.args.target) (plain_of c.fix_if.new.tree)) c.in_ok-path.ensures
+    ∙ ap (λ p. put_version p (version_tree c.form.result c.args.target) (plain_of c.fix_if.new.tree)) c.in_ok-path.ensures
     ∙ ap (λ f. put_in c.args.chain.now.version (version_tree f c.args.target) (plain_of c.fix_if.new.tree)) c.form.ensures
 
 pub version_of-requires : goal.version_of-requires

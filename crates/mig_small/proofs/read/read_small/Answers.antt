@@ -23,7 +23,7 @@ returns-in-Some-clause-found c =
     let are : seen c.in_ok-pieces.pieces.declarations.items ≡ in_order p = ap seen (sym c.deref.ensures.value) ∙ c.in-Some.ensures in
     let cuts = subst (λ ps. Cuts text ps rest) are c.in_ok-pieces.ensures in
     let yes : c.is_blank.result ≡ true = cc in
-    text_found text rest p cuts c.if-text-gt-MAX_TEXT.false (c.is_blank.ensures.0 yes) c.read_chain.result c.read_chain.ensures
+    text_found text rest p cuts c.if-text-gt-MOST_CHAIN_BYTES.false (c.is_blank.ensures.0 yes) c.read_chain.result c.read_chain.ensures
 
 pub returns-in-Some-clause-not_yet : goal.returns-in-Some-clause-not_yet
 returns-in-Some-clause-not_yet c =

@@ -1,7 +1,7 @@
 use Rattle.std.proofs.Common.{List, map, subst, sym}
 use Rattle.std.specs.Prelude.{IsTrue}
 use Rattle.mig_syntax.specs.TemplateView as syntax
-use Rattle.mig_model.specs.Ascends.{AscendBy}
+use Rattle.mig_model.specs.Names.{AscendBy}
 use Rattle.mig_model.proofs.Rising.{ascend_by, by_ascends}
 use Rattle.mig_small.specs.Small.{Ascend}
 use Rattle.mig_small.specs.View.{field_of}

@@ -1,7 +1,7 @@
 use Rattle.std.proofs.Common.{◌≡◌, ℕ, List, map, true, Vec, Global, sym, subst, ◌∙◌}
 use Rattle.std.proofs.lemmas.Result.{err_from_is_err_and}
 use Rattle.mig_model.specs.Family.{IsFormed}
-use Rattle.mig_small.specs.Pieces.{IsHead, IsRecord, family_of}
+use Rattle.mig_small.specs.Pieces.{IsHead, IsRecordPiece, family_of}
 use Rattle.mig_small.specs.ChainPieces.{AreSchema}
 use Rattle.mig_small.specs.View.{field_of}
 use Rattle.mig_small.specs.Views.{schema_of, schema_pieces}
@@ -20,7 +20,7 @@ pub returns-in_err-name : goal.returns-in_err-name
 returns-in_err-name c =
     let p = schema_pieces c.args.pieces.now in
     let r = err_from_is_err_and c.from_residual-in_err-name.result c.from_residual-in_err-name.ensures.1 in
-    rw (r.1, r.2) (failed (λ (x : List ℕ × Vec SmallField Global). (x.0, map field_of x.1.items)) (IsRecord c.args.form p.named) schema_of (AreSchema c.args.form c.args.version.now p) c.in_err-name.field-0.0 (λ s q. ((s.root, s.fields), q.named)) c.in_err-name.ensures)
+    rw (r.1, r.2) (failed (λ (x : List ℕ × Vec SmallField Global). (x.0, map field_of x.1.items)) (IsRecordPiece c.args.form p.named) schema_of (AreSchema c.args.form c.args.version.now p) c.in_err-name.field-0.0 (λ s q. ((s.root, s.fields), q.named)) c.in_err-name.ensures)
 
 pub returns-in_err-root : goal.returns-in_err-root
 returns-in_err-root c =

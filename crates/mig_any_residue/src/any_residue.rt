@@ -11,9 +11,17 @@ use std::marker::Model;
 
 /// What is left of a value without the foci of an `AnyOptic`. Contracts see the rest that it stands for.
 #[cycle(any_residue)]
-#[derive(Debug, Drop)]
+#[derive(Debug)]
 pub struct AnyResidue<'a> {
     held: Held<'a>,
+}
+
+impl Drop for AnyResidue<'_> {
+    #[cycle(drops)]
+    fn drop(self) {
+        let AnyResidue { held } = self;
+        drop(held);
+    }
 }
 
 /// The residue of each optic.
@@ -40,9 +48,17 @@ pub struct AnyGroup<'a> {
 
 /// What is left of each focus of the first optic.
 #[cycle(any_residue)]
-#[derive(Debug, Drop)]
+#[derive(Debug)]
 pub struct AnyGroups<'a> {
     list: Vec<AnyGroup<'a>>,
+}
+
+impl Drop for AnyGroups<'_> {
+    #[cycle(drops)]
+    fn drop(self) {
+        let AnyGroups { list } = self;
+        drop(list);
+    }
 }
 
 impl<'a> Model for AnyResidue<'a> {

@@ -23,9 +23,17 @@ pub enum AnyOptic {
 
 /// An optic on the heap.
 #[cycle(any_optic)]
-#[derive(Debug, Drop)]
+#[derive(Debug)]
 pub struct OpticBox {
     optic: Box<AnyOptic>,
+}
+
+impl Drop for OpticBox {
+    #[cycle(drops)]
+    fn drop(self) {
+        let OpticBox { optic } = self;
+        drop(optic);
+    }
 }
 
 impl Model for OpticBox {

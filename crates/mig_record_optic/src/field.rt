@@ -21,10 +21,17 @@ pub struct MayField {
 }
 
 /// A record value with Null in place of one of its values. Contracts see the name and the record value with Null there.
-#[derive(Debug, Drop)]
+#[derive(Debug)]
 pub struct Hole<'a> {
     parts: RecValue<'a>,
     place: SlotPlace,
+}
+
+impl Drop for Hole<'_> {
+    fn drop(self) {
+        let Hole { parts, place: _ } = self;
+        drop(parts);
+    }
 }
 
 impl<'a> Model for Hole<'a> {

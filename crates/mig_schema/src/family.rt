@@ -17,9 +17,16 @@ use std::alloc::Global;
 use std::marker::Model;
 
 /// A formed family: a form, the version path, named templates and the name of the root. Contracts see a plain family. The rules are this project's own.
-#[derive(Debug, Drop)]
+#[derive(Debug)]
 pub struct Family {
     parts: Parts,
+}
+
+impl Drop for Family {
+    fn drop(self) {
+        let Family { parts } = self;
+        drop(parts);
+    }
 }
 
 impl Model for Family {

@@ -17,9 +17,16 @@ use std::alloc::{AllocFailed, Global};
 use std::marker::Model;
 
 /// Types whose names are distinct, in the order of declaration. Contracts see the list of the names and their templates.
-#[derive(Debug, Drop)]
+#[derive(Debug)]
 pub struct NamedTypes {
     map: IndexMap<Name, Template>,
+}
+
+impl Drop for NamedTypes {
+    fn drop(self) {
+        let NamedTypes { map } = self;
+        drop(map);
+    }
 }
 
 impl Model for NamedTypes {

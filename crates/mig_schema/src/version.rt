@@ -14,9 +14,16 @@ use std::alloc::Global;
 use std::marker::Model;
 
 /// One to three names that lead from a save's root to its version. Contracts see the list of the names.
-#[derive(Debug, Drop)]
+#[derive(Debug)]
 pub struct VersionPath {
     names: Vec<Name>,
+}
+
+impl Drop for VersionPath {
+    fn drop(self) {
+        let VersionPath { names } = self;
+        drop(names);
+    }
 }
 
 impl Model for VersionPath {

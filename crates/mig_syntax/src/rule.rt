@@ -7,7 +7,7 @@ use std::alloc::{AllocFailed, Global};
 use std::marker::Model;
 
 /// The syntax of a constant.
-#[derive(Debug, Drop)]
+#[derive(Debug)]
 pub enum ConstText {
     /// A whole number of the kind `Byte`, `Short`, `Int`, `Long` or `Whole`, which may be outside the kind's range.
     Number(Kind, i128),
@@ -20,13 +20,35 @@ pub enum ConstText {
     Empty(Kind),
 }
 
+impl Drop for ConstText {
+    fn drop(self) {
+        match self {
+            ConstText::Text(text) => drop(text),
+            ConstText::Number(_, _)
+            | ConstText::Bits(_, _)
+            | ConstText::Bool(_)
+            | ConstText::Null
+            | ConstText::Empty(_) => {}
+        }
+    }
+}
+
 /// The syntax of what a new field is filled with.
-#[derive(Debug, Drop)]
+#[derive(Debug)]
 pub enum FillText {
     /// `const`
     Const(ConstText),
     /// `'list' part`: the empty list, and the template of its items.
     EmptyList(TemplateText),
+}
+
+impl Drop for FillText {
+    fn drop(self) {
+        match self {
+            FillText::Const(constant) => drop(constant),
+            FillText::EmptyList(template) => drop(template),
+        }
+    }
 }
 
 /// The syntax of a leaf function.
@@ -56,7 +78,7 @@ pub enum LeafText {
     Lower,
 }
 
-// Written by hand, since a derived one is done in place: what lets two functions go would have a branch for each pair of variants to prove.
+// Most drops of this crate are written by hand: a derived one is done in place wherever a value is let go, with a branch for each variant to prove there.
 impl Drop for LeafText {
     fn drop(self) {
         match self {
@@ -106,7 +128,6 @@ pub enum FunctionText {
     AddCase(Name, FieldList),
 }
 
-// Written by hand, as that of leaf functions is.
 impl Drop for FunctionText {
     fn drop(self) {
         match self {
@@ -169,16 +190,32 @@ pub enum RuleText {
 
 /// The syntax of a rule, on the heap.
 #[cycle(rule)]
-#[derive(Debug, Drop)]
+#[derive(Debug)]
 pub struct RuleBox {
     rule: Box<RuleText>,
 }
 
+impl Drop for RuleBox {
+    #[cycle(rule_drops)]
+    fn drop(self) {
+        let RuleBox { rule } = self;
+        drop(rule);
+    }
+}
+
 /// Rules in order.
 #[cycle(rule)]
-#[derive(Debug, Drop)]
+#[derive(Debug)]
 pub struct RuleList {
     list: Vec<RuleText>,
+}
+
+impl Drop for RuleList {
+    #[cycle(rule_drops)]
+    fn drop(self) {
+        let RuleList { list } = self;
+        drop(list);
+    }
 }
 
 impl Model for RuleBox {

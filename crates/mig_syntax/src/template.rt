@@ -22,9 +22,17 @@ pub enum TemplateText {
 
 /// The syntax of a template, on the heap.
 #[cycle(template)]
-#[derive(Debug, Drop)]
+#[derive(Debug)]
 pub struct TemplateBox {
     template: Box<TemplateText>,
+}
+
+impl Drop for TemplateBox {
+    #[cycle(template_drops)]
+    fn drop(self) {
+        let TemplateBox { template } = self;
+        drop(template);
+    }
 }
 
 /// The syntax of a record.
@@ -39,7 +47,7 @@ pub struct RecordText {
 
 /// The syntax of a field.
 #[cycle(template)]
-#[derive(Debug, Drop)]
+#[derive(Debug)]
 pub struct FieldText {
     pub name: Name,
     /// Whether `?` stands.
@@ -47,27 +55,66 @@ pub struct FieldText {
     pub template: TemplateText,
 }
 
+impl Drop for FieldText {
+    #[cycle(template_drops)]
+    fn drop(self) {
+        let FieldText {
+            name,
+            may: _,
+            template,
+        } = self;
+        drop(name);
+        drop(template);
+    }
+}
+
 /// The syntax of a choice, `'choice' STRING { case {, case} }`. Contracts see the pair of the tag's name and the cases.
 #[cycle(template)]
-#[derive(Debug, Drop)]
+#[derive(Debug)]
 pub struct ChoiceText {
     tag: Name,
     cases: Vec<CaseText>,
 }
 
+impl Drop for ChoiceText {
+    #[cycle(template_drops)]
+    fn drop(self) {
+        let ChoiceText { tag, cases } = self;
+        drop(tag);
+        drop(cases);
+    }
+}
+
 /// The syntax of a case, `STRING { [field {, field}] }`.
 #[cycle(template)]
-#[derive(Debug, Drop)]
+#[derive(Debug)]
 pub struct CaseText {
     pub literal: Name,
     pub fields: FieldList,
 }
 
+impl Drop for CaseText {
+    #[cycle(template_drops)]
+    fn drop(self) {
+        let CaseText { literal, fields } = self;
+        drop(literal);
+        drop(fields);
+    }
+}
+
 /// Fields as they stand in the text. Their names may repeat.
 #[cycle(template)]
-#[derive(Debug, Drop)]
+#[derive(Debug)]
 pub struct FieldList {
     list: Vec<FieldText>,
+}
+
+impl Drop for FieldList {
+    #[cycle(template_drops)]
+    fn drop(self) {
+        let FieldList { list } = self;
+        drop(list);
+    }
 }
 
 impl Model for TemplateBox {

@@ -25,10 +25,18 @@ pub struct Field {
 
 /// Fields whose names are distinct and ascend by bytes. Contracts see the list of the fields.
 #[cycle(template)]
-#[derive(Debug, Drop)]
+#[derive(Debug)]
 pub struct Fields {
     list: Vec<Field>,
     musts: usize,
+}
+
+impl Drop for Fields {
+    #[cycle(drops)]
+    fn drop(self) {
+        let Fields { list, musts: _ } = self;
+        drop(list);
+    }
 }
 
 impl Model for Fields {

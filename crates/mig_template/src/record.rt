@@ -32,20 +32,46 @@ impl Keyed for Case {
 
 /// The name of a tag, a case for each of its literals, and whether a tag that is no literal is kept. Contracts see these three.
 #[cycle(template)]
-#[derive(Debug, Drop)]
+#[derive(Debug)]
 pub struct Choice {
     tag: Name,
     cases: Vec<Case>,
     kept: bool,
 }
 
+impl Drop for Choice {
+    #[cycle(drops)]
+    fn drop(self) {
+        let Choice {
+            tag,
+            cases,
+            kept: _,
+        } = self;
+        drop(tag);
+        drop(cases);
+    }
+}
+
 /// A record: fields that each of its maps has, a choice between cases by a tag, and whether other names may stand there. Contracts see its parts as lists.
 #[cycle(template)]
-#[derive(Debug, Drop)]
+#[derive(Debug)]
 pub struct Record {
     fields: Fields,
     choice: Option<Choice>,
     rest: Rest,
+}
+
+impl Drop for Record {
+    #[cycle(drops)]
+    fn drop(self) {
+        let Record {
+            fields,
+            choice,
+            rest: _,
+        } = self;
+        drop(fields);
+        drop(choice);
+    }
 }
 
 impl Model for Choice {

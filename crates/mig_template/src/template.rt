@@ -21,9 +21,17 @@ pub enum Template {
 
 /// A template on the heap.
 #[cycle(template)]
-#[derive(Debug, Drop)]
+#[derive(Debug)]
 pub struct TemplateBox {
     template: Box<Template>,
+}
+
+impl Drop for TemplateBox {
+    #[cycle(drops)]
+    fn drop(self) {
+        let TemplateBox { template } = self;
+        drop(template);
+    }
 }
 
 impl Model for TemplateBox {

@@ -29,9 +29,17 @@ impl<'a> Keyed for Entry<'a> {
 
 /// The pairs of a map, whose names are distinct and ascend by bytes. Contracts see the list of the pairs.
 #[cycle(tree)]
-#[derive(Debug, Drop)]
+#[derive(Debug)]
 pub struct Entries<'a> {
     list: Vec<Entry<'a>>,
+}
+
+impl Drop for Entries<'_> {
+    #[cycle(drops)]
+    fn drop(self) {
+        let Entries { list } = self;
+        drop(list);
+    }
 }
 
 impl<'a> Model for Entries<'a> {

@@ -7,9 +7,17 @@ use std::marker::Model;
 
 /// The items of a list, which contracts see as a list of plain trees.
 #[cycle(tree)]
-#[derive(Debug, Drop)]
+#[derive(Debug)]
 pub struct Items<'a> {
     items: Vec<Tree<'a>>,
+}
+
+impl Drop for Items<'_> {
+    #[cycle(drops)]
+    fn drop(self) {
+        let Items { items } = self;
+        drop(items);
+    }
 }
 
 impl<'a> Model for Items<'a> {

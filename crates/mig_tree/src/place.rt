@@ -14,9 +14,16 @@ pub enum Step {
 }
 
 /// A way from the root of a tree, which contracts see as a plain place.
-#[derive(Debug, Drop)]
+#[derive(Debug)]
 pub struct Place {
     steps: Vec<Step>,
+}
+
+impl Drop for Place {
+    fn drop(self) {
+        let Place { steps } = self;
+        drop(steps);
+    }
 }
 
 impl Model for Place {

@@ -5,9 +5,16 @@ ghost use Rattle.mig_model.specs.Keeps.{IsShort};
 use std::marker::Model;
 
 /// The bytes of a text, lent by the source or owned. Contracts see the bytes alone, so two texts with the same bytes are equal there.
-#[derive(Debug, Drop)]
+#[derive(Debug)]
 pub struct Text<'a> {
     held: Held<'a>,
+}
+
+impl Drop for Text<'_> {
+    fn drop(self) {
+        let Text { held } = self;
+        drop(held);
+    }
 }
 
 #[derive(Debug, Drop)]

@@ -8,9 +8,17 @@ use std::mem;
 
 /// A value on the heap.
 #[cycle(value)]
-#[derive(Debug, Drop)]
+#[derive(Debug)]
 pub struct ValueBox<'a> {
     value: Box<Value<'a>>,
+}
+
+impl Drop for ValueBox<'_> {
+    #[cycle(drops)]
+    fn drop(self) {
+        let ValueBox { value } = self;
+        drop(value);
+    }
 }
 
 impl<'a> Model for ValueBox<'a> {

@@ -17,9 +17,17 @@ pub struct ExtraParts<'a> {
 
 /// The same on the heap, so that the value of a record without them is small.
 #[cycle(value)]
-#[derive(Debug, Drop)]
+#[derive(Debug)]
 pub struct Extras<'a> {
     parts: Box<ExtraParts<'a>>,
+}
+
+impl Drop for Extras<'_> {
+    #[cycle(drops)]
+    fn drop(self) {
+        let Extras { parts } = self;
+        drop(parts);
+    }
 }
 
 impl<'a> Model for Extras<'a> {

@@ -7,10 +7,19 @@ use std::mem;
 
 /// A tree of a named type. Only `enter` and `open` lead to its body, and count.
 #[cycle(value)]
-#[derive(Debug, Drop)]
+#[derive(Debug)]
 pub struct Node<'a> {
     name: Name,
     body: Value<'a>,
+}
+
+impl Drop for Node<'_> {
+    #[cycle(drops)]
+    fn drop(self) {
+        let Node { name, body } = self;
+        drop(name);
+        drop(body);
+    }
 }
 
 impl<'a> Model for Node<'a> {

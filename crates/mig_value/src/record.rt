@@ -10,10 +10,19 @@ use std::marker::Model;
 ///
 /// All but the fields stand behind one box, which a value without them doesn't have.
 #[cycle(value)]
-#[derive(Debug, Drop)]
+#[derive(Debug)]
 pub struct RecValue<'a> {
     fields: Slots<'a>,
     extras: Option<Extras<'a>>,
+}
+
+impl Drop for RecValue<'_> {
+    #[cycle(drops)]
+    fn drop(self) {
+        let RecValue { fields, extras } = self;
+        drop(fields);
+        drop(extras);
+    }
 }
 
 impl<'a> Model for RecValue<'a> {

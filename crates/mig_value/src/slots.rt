@@ -27,9 +27,17 @@ impl<'a> Keyed for Slot<'a> {
 
 /// Slots whose names are distinct and ascend by bytes. Contracts see the list of the names and the plain values.
 #[cycle(value)]
-#[derive(Debug, Drop)]
+#[derive(Debug)]
 pub struct Slots<'a> {
     list: Vec<Slot<'a>>,
+}
+
+impl Drop for Slots<'_> {
+    #[cycle(drops)]
+    fn drop(self) {
+        let Slots { list } = self;
+        drop(list);
+    }
 }
 
 impl<'a> Model for Slots<'a> {

@@ -7,9 +7,17 @@ use std::marker::Model;
 
 /// The items of a list, which contracts see as a list of plain values.
 #[cycle(value)]
-#[derive(Debug, Drop)]
+#[derive(Debug)]
 pub struct Values<'a> {
     list: Vec<Value<'a>>,
+}
+
+impl Drop for Values<'_> {
+    #[cycle(drops)]
+    fn drop(self) {
+        let Values { list } = self;
+        drop(list);
+    }
 }
 
 impl<'a> Model for Values<'a> {

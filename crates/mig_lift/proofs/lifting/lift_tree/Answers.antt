@@ -17,7 +17,7 @@ use Rattle.mig_lift.proofs.Written.{removed_written, due_written, lifted_written
 use Rattle.mig_lift.proofs.InForm.{in_form}
 use Rattle.mig_lift.proofs.Decoded.{passed_tree}
 use Rattle.mig_lift.proofs.lifting.lift_tree.Goals as goal
-use Rattle.mig_lift.proofs.lifting.lift_tree.Goals.{After-drop-path-inside-2}
+use Rattle.mig_lift.proofs.lifting.lift_tree.Goals.{After-drop-path-2}
 use Rattle.mig_lift.proofs.lifting.lift_tree.Given.{Over}
 
 pub returns-in-Err-clause-lifts : goal.returns-in-Err-clause-lifts
@@ -63,10 +63,10 @@ returns-in_err-tree-clause-lifts g c =
     (subst (λ u. Checks (Err e) (family_with s (cond (nat_lt v s.second) s.before s.after)) u) after here))
 
 -- the tree that was read is the one without the version name
-read_is : (g : Over) (c : After-drop-path-inside-2 g) → plain_of c.in_ok-tree.tree ≡ removed c.args.chain.now.version (plain_of c.args.tree)
+read_is : (g : Over) (c : After-drop-path-2 g) → plain_of c.in_ok-tree.tree ≡ removed c.args.chain.now.version (plain_of c.args.tree)
 read_is g c = c.in_ok-tree.ensures.checks.0 ∙ c.strip_version.ensures.rest ∙ ap (λ p. strip p (plain_of c.args.tree)) c.in_ok-path.ensures
 
-target_put : (g : Over) (c : After-drop-path-inside-2 g) → plain_of c.put.new.tree ≡ put_in c.args.chain.now.version (version_tree c.args.chain.now.form c.args.target) (plain_of c.fix_if.new.tree)
+target_put : (g : Over) (c : After-drop-path-2 g) → plain_of c.put.new.tree ≡ put_in c.args.chain.now.version (version_tree c.args.chain.now.form c.args.target) (plain_of c.fix_if.new.tree)
 target_put g c =
     c.in_ok-put.ensures.ok
     ∙ ap (λ p. put_version p (version_tree c.form.result c.args.target) (plain_of c.fix_if.new.tree)) c.in_ok-path.ensures

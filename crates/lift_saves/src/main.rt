@@ -1,18 +1,10 @@
 //! Lifts a folder of game saves to a version of their chain.
 #![tactic(auto)]
 
-mod chain;
-mod command;
-mod folder;
-mod lines;
-mod save;
-mod stop;
-mod top_call;
-mod words;
-
 ghost use Rattle.std.specs.Prelude.{◌≡◌, ◌<◌};
 
 use mig_files::{HostFiles, HostSink, host_word};
+use mig_run::run;
 use mig_tree::Steps;
 use std::alloc::Global;
 use std::io::ErrorKind;
@@ -20,7 +12,6 @@ use std::marker::Brand;
 use std::process::ExitCode;
 use std::sync::ledger::{Blank, Ledger};
 use std::{env, io};
-pub use top_call::run;
 
 // The words after the program's name, and none where one isn't UTF-8.
 fn words_of(rt: &HostRuntime, alloc: Global) -> io::Result<Vec<String>> {
@@ -103,6 +94,3 @@ fn main(rt: HostRuntime) -> ExitCode {
         }
     }
 }
-
-#[cfg(test)]
-mod tests;

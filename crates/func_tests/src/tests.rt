@@ -345,8 +345,13 @@ fn choices_change(rt: HostRuntime) {
                 "-",
             ),
             ("=ta closed", "a", "retag a b", r#"{"t":"a"}"#, "-"),
-            ("=ta kept closed", "", "retag a b", r#"{"t":"a"}"#, "-"),
-            ("=ta kept closed", "", "addcase b x", r#"{"t":"a"}"#, "-"),
+            (
+                "=ta kept closed",
+                "",
+                "retag a b",
+                r#"{"t":"a"}"#,
+                r#"{"t":"b",}"#,
+            ),
             (
                 "whole .y =ta whole .x kept closed",
                 "",
@@ -360,6 +365,67 @@ fn choices_change(rt: HostRuntime) {
                 "rename y z",
                 r#"{"t":"q","y":3}"#,
                 r#"{"t":"q","y":3,}"#,
+            ),
+        ],
+    );
+}
+
+#[test]
+fn kept_saves_are_settled(rt: HostRuntime) {
+    let kept = "text .l whole ?n any ?z =ta whole .p kept closed";
+    let open = "text .l whole ?n any ?z =ta whole .p kept open";
+    check(
+        &rt,
+        rt.alloc(),
+        &[
+            (
+                kept,
+                "",
+                "retag a b",
+                r#"{"l":7,"n":3,"p":2,"q":null,"t":"b","z":[1]}"#,
+                r#"{"l":"","n":3,"p":2,"t":"b","z":[1,],}"#,
+            ),
+            (
+                open,
+                "",
+                "retag a b",
+                r#"{"l":"A","n":"no","p":2,"q":1,"t":"b"}"#,
+                r#"{"l":"A","p":2,"q":1,"t":"b",}"#,
+            ),
+            (
+                kept,
+                "",
+                "retag a b",
+                r#"{"l":7,"p":2,"q":1,"t":"c"}"#,
+                r#"{"l":7,"p":2,"q":1,"t":"c",}"#,
+            ),
+            (
+                "whole list .l =ta kept closed",
+                "",
+                "retag a b",
+                r#"{"l":[1],"t":"a"}"#,
+                "-",
+            ),
+            (
+                "any .l =ta kept closed",
+                "",
+                "retag a b",
+                r#"{"l":[1],"t":"a"}"#,
+                "-",
+            ),
+            (
+                "=ta kept closed",
+                "",
+                "addcase b y x",
+                r#"{"t":"b","x":"no","z":1}"#,
+                r#"{"t":"b","x":0,"y":0,}"#,
+            ),
+            (
+                "=ta kept closed",
+                "",
+                "addcase b x",
+                r#"{"t":"c","x":"no"}"#,
+                r#"{"t":"c","x":"no",}"#,
             ),
         ],
     );

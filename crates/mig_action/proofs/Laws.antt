@@ -108,4 +108,4 @@ nodes_stay f p r v a =
     (fits_after Whatever (Has Whatever (Contains ns)) f p r v a has_all (λ x w e. tt) (λ x w k l e. tt))
 
 pub no_more_nodes : NoMoreNodes
-no_more_nodes f p r v a x = applied_counts x f p v
+no_more_nodes f p r v a x = applied_counts x f p r v a.record_kept.0 a.fits

@@ -9,6 +9,7 @@ pub mod Several
 pub mod Ops
 pub mod Distinct
 pub mod Scopes
+pub mod Settling
 pub mod Whole
 pub mod Counts
 pub mod AtPoints

@@ -33,6 +33,9 @@ pub then_some : {A B : Type 0} (f : A → Option B) (o : Option A) (b : B) → o
 then_some f None b h = cc
 then_some f (Some a) b h = (a, refl, h)
 
+pub none_then : {A B : Type 0} (o : Option A) (r : B) → option_and_then (λ s. None) o ≡ Some r → ⊥
+none_then o r h = grind arith
+
 -- ---- fills
 
 pub fill_fits : (U : Typed → Type 0) (P : List ℕ → Typed → Type 0) (c : Fill) → ValueFits U P (fill_template c) (fill_value c)

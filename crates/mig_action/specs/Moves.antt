@@ -1,9 +1,13 @@
 -- What a field function does to the parts of a record value.
-use Rattle.std.specs.Prelude.{ℕ, List, [], Bool, false, Option, Some, None, option_map, option_and_then, unwrap_or, if◌then◌else◌}
+use Rattle.std.specs.Prelude.{ℕ, List, [], Bool, false, Option, Some, None, option_and_then, unwrap_or, if◌then◌else◌}
+use Rattle.std.specs.Option.{option_or}
+use Rattle.std.specs.Map.{keys_of}
 use Rattle.mig_model.specs.declared.kind.Kind.{Kind}
 use Rattle.mig_model.specs.Plain.{Plain}
 use Rattle.mig_model.specs.Kinds.{kind_of}
-use Rattle.mig_model.specs.Template.{Field, same_kind}
+use Rattle.mig_model.specs.declared.rest.Rest.{Rest}
+use Rattle.mig_model.specs.Template.{leaf, Field, same_kind, is_must, is_open}
+use Rattle.mig_model.specs.Const.{const_tree}
 use Rattle.mig_model.specs.Names.{same_name, under, has, without, put, bring, put_all, moved, those, others, changed}
 use Rattle.mig_model.specs.Fields.{if_so}
 use Rattle.mig_model.specs.Leaf.{leaf_value}
@@ -12,8 +16,9 @@ use Rattle.mig_template.specs.Parts.{found_case}
 use Rattle.mig_value.specs.Typed.{Typed, atom, list, left, right, rec, Slot, Tag, no_item, item, no_slot, slots, slots_of}
 use Rattle.mig_value.specs.Parts.{RecordParts}
 use Rattle.mig_value.specs.Leaf.{leaf_of}
-use Rattle.mig_action.specs.FieldFn.{Scope, common, in_case, Fill, constant, empty_list, fill_tree, FieldOp, rename, drop, add, learn, forget, default, maybe, map_leaf, nest, unnest, wrap, unify, retag, add_case, FieldFn}
-use Rattle.mig_action.specs.Act.{inner_names, left_kind, unified}
+use Rattle.mig_action.specs.FieldFn.{Scope, common, in_case, Fill, constant, empty_list, fill_tree, zero, FieldOp, rename, drop, add, learn, forget, default, maybe, map_leaf, nest, unnest, wrap, unify, retag, add_case, FieldFn}
+use Rattle.mig_action.specs.NewRecord.{FieldType, fields_of_case}
+use Rattle.mig_action.specs.Act.{inner_names, left_kind, unified, by_field}
 
 abbrev pub fill_value : Fill → Typed
 fill_value (constant c) = atom (fill_tree (constant c))
@@ -70,15 +75,25 @@ move (unify x f g) fs m = record { slots = changed x (at_side (unified f g (left
 move (retag a b) fs m = m
 move (add_case b gs) fs m = m
 
--- the tag that is a becomes b
-abbrev pub retag_to : List ℕ → List ℕ → Tag → Tag
-retag_to a b t = (t.0, if same_name t.1 a then b else t.1)
-
 abbrev pub with_moving : RecordParts → Moving → RecordParts
 with_moving v m = record v { fields = m.slots; rest = m.rest }
 
 abbrev pub with_moving_case : RecordParts → Moving → RecordParts
 with_moving_case v m = record v { cased = m.slots; rest = m.rest }
+
+-- what a field has once it is settled
+abbrev pub settled_value : FieldType → Option Typed → Option Typed
+settled_value (p, leaf k) o = option_or (option_and_then (learned_value (Some k)) o) (if_so (is_must p) (atom (const_tree (zero k))))
+settled_value s o = o
+
+-- a record value that was kept is given these fields, which are taken from the unknown ones
+abbrev pub settle_case : List Field → Rest → RecordParts → RecordParts
+settle_case fs r v = record v { cased = by_field settled_value fs v.rest; rest = (if is_open r then others (keys_of fs) v.rest else []) }
+
+-- the tag that is a becomes b, and a value that was kept with the tag b is settled
+abbrev pub retag_value : List ℕ → List ℕ → template.RecordParts → Option template.Cases → Option Tag → RecordParts → RecordParts
+retag_value a b p (Some c) (Some t) v = if same_name t.1 a then record v { tag = Some (t.0, b) } else (if same_name t.1 b then settle_case (fields_of_case a c) p.rest v else v)
+retag_value a b p c t v = v
 
 abbrev pub is_of_case : List ℕ → Option Tag → Bool
 is_of_case l None = false
@@ -86,7 +101,8 @@ is_of_case l (Some t) = same_name t.1 l
 
 -- in a case, a record of another case stays
 abbrev pub apply_by : FieldOp → Scope → template.RecordParts → RecordParts → RecordParts
-apply_by (retag a b) scope p v = record v { tag = option_map (retag_to a b) v.tag }
+apply_by (retag a b) scope p v = retag_value a b p p.choice v.tag v
+apply_by (add_case b fs) scope p v = if is_of_case b v.tag then settle_case fs p.rest v else v
 apply_by op common p v = with_moving v (move op p.fields (record { slots = v.fields; rest = v.rest }))
 apply_by op (in_case l) p v = if is_of_case l v.tag then with_moving_case v (move op (unwrap_or (found_case l p.choice) []) (record { slots = v.cased; rest = v.rest })) else v
 

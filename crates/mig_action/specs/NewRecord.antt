@@ -1,5 +1,5 @@
 -- Which records a field function fits, and the new record.
-use Rattle.std.specs.Prelude.{ℕ, List, [], ◌∷◌, ◌++◌, map, Bool, true, false, not, ◌&&◌, ◌||◌, Option, Some, None, option_map, option_and_then, if◌then◌else◌}
+use Rattle.std.specs.Prelude.{ℕ, List, [], ◌∷◌, ◌++◌, map, Bool, true, false, not, ◌&&◌, ◌||◌, Option, Some, None, option_map, option_and_then, unwrap_or, if◌then◌else◌}
 use Rattle.std.specs.List.{list_all}
 use Rattle.std.specs.Map.{keys_of}
 use Rattle.mig_model.specs.declared.form.Form.TheVariants as F
@@ -129,16 +129,32 @@ new_fields (add_case b fs) r s = None
 abbrev pub with_cases : RecordParts → Cases → RecordParts
 with_cases p c = record p { choice = Some c }
 
--- the case of a has the literal b; a choice that keeps unknown tags isn't retagged
-abbrev pub retagged : List ℕ → List ℕ → Cases → Option Cases
-retagged a b c = if_so (has a c.1 && (not (has b c.1) && not c.2)) (c.0, moved a b c.1, c.2)
+-- a field that any tree can be given: a leaf, which its zero stands for, or any tree that may be away
+abbrev pub is_easy : FieldType → Bool
+is_easy (p, leaf k) = is_leaf k
+is_easy (p, any) = not (is_must p)
+is_easy s = false
 
--- the names of the new case are distinct and no others' of the record, and its sums are clear; a choice that keeps unknown tags gets no new case
+abbrev pub are_easy : List Field → Bool
+are_easy fs = list_all (λ f. is_easy f.1) fs
+
+-- saves that were kept with a tag can be given these fields; where none are kept, nothing is asked
+abbrev pub can_be_settled : Bool → List Field → Bool
+can_be_settled kept fs = not kept || are_easy fs
+
+abbrev pub fields_of_case : List ℕ → Cases → List Field
+fields_of_case l c = unwrap_or (under l c.1) []
+
+-- the case of a has the literal b
+abbrev pub retagged : List ℕ → List ℕ → Cases → Option Cases
+retagged a b c = if_so (has a c.1 && (not (has b c.1) && can_be_settled c.2 (fields_of_case a c))) (c.0, moved a b c.1, c.2)
+
+-- the names of the new case are distinct and no others' of the record, and its sums are clear
 abbrev pub can_be_case : List Field → List Field → Cases → Bool
 can_be_case fs shared c = not (has_twice (keys_of fs ++ c.0 ∷ keys_of shared)) && list_all (λ f. is_clear f.1.1) fs
 
 abbrev pub with_case : List ℕ → List Field → List Field → Cases → Option Cases
-with_case b fs shared c = if_so (not (has b c.1) && (can_be_case fs shared c && not c.2)) (c.0, put b (put_all fs []) c.1, c.2)
+with_case b fs shared c = if_so (not (has b c.1) && (can_be_case fs shared c && can_be_settled c.2 fs)) (c.0, put b (put_all fs []) c.1, c.2)
 
 -- the new record, or none where the function doesn't fit
 abbrev pub new_by : FieldOp → Scope → RecordParts → Option RecordParts

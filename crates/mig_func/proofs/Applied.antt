@@ -1,22 +1,26 @@
 -- The parts of a record value after a function are those that its law speaks of.
 use Rattle.std.proofs.Common.{◌≡◌, ℕ, List, [], true, false, true≢false, Option, Some, None, refl, sym, ap, subst, ◌∙◌, arith}
-use Rattle.std.specs.Prelude.{◌||◌, is_some, option_map, option_and_then, unwrap_or, if◌then◌else◌}
+use Rattle.std.specs.Prelude.{not, ◌||◌, ◌&&◌, is_some, option_map, option_and_then, unwrap_or, if◌then◌else◌}
 use Rattle.mig_model.specs.Template.{Field}
-use Rattle.mig_model.specs.Fields.{is_in_choice}
 use Rattle.mig_template.specs.Parts as template
 use Rattle.mig_template.specs.Parts.{choice_of, found_case}
 use Rattle.mig_value.specs.Typed.{Tag}
 use Rattle.mig_value.specs.Parts as value
 use Rattle.mig_value.specs.Parts.{IsRecordValue}
-use Rattle.mig_model.specs.Names.{under, has}
-use Rattle.mig_action.specs.FieldFn.{Scope, common, in_case, FieldOp, map_leaf, unnest, unify, retag}
-use Rattle.mig_action.specs.NewRecord.{Scoped, is_tag, scoped, with_fields, new_fields, new_by}
+use Rattle.std.specs.Map.{keys_of}
+use Rattle.mig_model.specs.Fields.{is_in_choice, if_so}
+use Rattle.mig_model.specs.Names.{has_twice, under, has, moved, same_name}
+use Rattle.mig_func.specs.New.{is_about_cases}
+use Rattle.mig_func.specs.Settled.{retagged_value, cased_value}
+use Rattle.mig_action.specs.FieldFn.{Scope, common, in_case, FieldOp, map_leaf, unnest, unify, retag, add_case}
+use Rattle.mig_action.specs.NewRecord.{Scoped, is_tag, scoped, with_fields, with_cases, new_fields, fields_of_case, can_be_settled, retagged, new_by}
 use Rattle.mig_template.specs.Kept as template_kept
 use Rattle.mig_value.specs.Kept as value_kept
 use Rattle.mig_value.specs.Fit.{Shape}
 use Rattle.mig_action.proofs.Laws.{parts_stay}
 use Rattle.mig_action.proofs.Edits.{some-there}
-use Rattle.mig_action.specs.Moves.{Moving, is_of_case, apply_by}
+use Rattle.mig_action.specs.Moves.{Moving, is_of_case, settle_case, retag_value, apply_by}
+use Rattle.mig_action.proofs.Counts.{new_names}
 use Rattle.mig_action.specs.Laws.{Applies}
 use Rattle.mig_action.proofs.Stands.{Stands, RecordStands, fits_stand, case_of}
 use Rattle.mig_action.proofs.Values.{mapped, then_some}
@@ -25,9 +29,10 @@ use Rattle.mig_func.proofs.Ready.{Whatever, Anything, ready}
 use Rattle.mig_model.proofs.SameNames.{same_name_is}
 
 -- ---- a function on the common fields
-pub common_is : (op : FieldOp) (p : template.RecordParts) (v : value.RecordParts) → common_after op p.fields v ≡ apply_by op common p v
-common_is (retag a b) p v = refl
-common_is op p v = refl
+pub common_is : (op : FieldOp) (p : template.RecordParts) (v : value.RecordParts) → is_about_cases op ≡ false → common_after op p.fields v ≡ apply_by op common p v
+common_is (retag a b) p v h = absurd (true≢false h)
+common_is (add_case b fs) p v h = absurd (true≢false h)
+common_is op p v h = refl
 
 abbrev common_scope : template.RecordParts → Scoped
 common_scope p = record { fields = p.fields; taken = λ n. is_in_choice n (choice_of p.choice) }
@@ -52,6 +57,7 @@ case_fields l p = unwrap_or (found_case l p.choice) []
 
 pub case_is : (op : FieldOp) (l : List ℕ) (p r : template.RecordParts) (v : value.RecordParts) → new_by op (in_case l) p ≡ Some r → (if is_of_case l v.tag then cased_after op (case_fields l p) v else v) ≡ apply_by op (in_case l) p v
 case_is (retag a b) l p r v h = absurd (no_retag (scoped (in_case l) p) r h)
+case_is (add_case b fs) l p r v h = absurd (no_retag (scoped (in_case l) p) r h)
 case_is op l p r v h = refl
 
 any_case_ready : (op : FieldOp) (l : List ℕ) (p r : template.RecordParts) (v : value.RecordParts) → RecordStands Whatever Anything p v → is_of_case l v.tag ≡ true
@@ -95,20 +101,55 @@ pub record Facts (op : FieldOp) (s : Scope) (p : template.RecordParts) (v : valu
   pub parts : IsRecordValue after
   pub same : after ≡ apply_by op s p v
 
-common_at : (op : FieldOp) (p : template.RecordParts) (v : value.RecordParts) → Known op common p v → Facts op common p v p.fields (in_common v) (common_after op p.fields v)
-common_at op p v k =
+common_at : (op : FieldOp) (p : template.RecordParts) (v : value.RecordParts) → is_about_cases op ≡ false → Known op common p v → Facts op common p v p.fields (in_common v) (common_after op p.fields v)
+common_at op p v about k =
     let a = applies op common p v k in
     record {
       ready = common_ready op p a.0 v (fits_stand Whatever Anything p v k.shape) a.1.fits;
-      parts = subst IsRecordValue (sym (common_is op p v)) (parts_stay (record { scope = common; op = op }) p a.0 v a.1);
-      same = common_is op p v;
+      parts = subst IsRecordValue (sym (common_is op p v about)) (parts_stay (record { scope = common; op = op }) p a.0 v a.1);
+      same = common_is op p v about;
     }
 
-pub common_facts : (op : FieldOp) (s : Scope) (p : template.RecordParts) (v : value.RecordParts) (fs : List Field) → s ≡ common → fs ≡ p.fields → Known op s p v → Facts op s p v fs (in_common v) (common_after op fs v)
-common_facts op s p v fs e f k =
-    subst (λ z. Facts op z p v fs (in_common v) (common_after op fs v)) (sym e)
-    (subst (λ l. Facts op common p v l (in_common v) (common_after op l v)) (sym f)
-    (common_at op p v (subst (λ z. Known op z p v) e k)))
+pub common_facts : (op : FieldOp) (p : template.RecordParts) (v : value.RecordParts) (fs : List Field) → is_about_cases op ≡ false → fs ≡ p.fields → Known op common p v → Facts op common p v fs (in_common v) (common_after op fs v)
+common_facts op p v fs about f k = subst (λ l. Facts op common p v l (in_common v) (common_after op l v)) (sym f) (common_at op p v about k)
+
+-- ---- a function on the cases
+-- the case that gets another literal has these fields
+retagged_is : (a b : List ℕ) (p : template.RecordParts) (v : value.RecordParts) (fs : List Field) (C : Option template.Cases) (T : Option Tag) → Some fs ≡ found_case a C
+    → (if is_of_case a T then record v { tag = option_map (λ t. (t.0, b)) T } else (if is_of_case b T then settle_case fs p.rest v else v)) ≡ retag_value a b p C T v
+retagged_is a b p v fs None T e = cc
+retagged_is a b p v fs (Some c) None e = refl
+retagged_is a b p v fs (Some c) (Some t) e =
+    ap (λ (F : Option (List Field)). if same_name t.1 a then record v { tag = Some (t.0, b) } else (if same_name t.1 b then settle_case (unwrap_or F []) p.rest v else v)) e
+
+pub record ChoiceFacts (op : FieldOp) (p : template.RecordParts) (v after : value.RecordParts) : Type 0 where
+  pub parts : IsRecordValue after
+  pub same : after ≡ apply_by op common p v
+
+choice_at : (op : FieldOp) (p : template.RecordParts) (v after : value.RecordParts) → Known op common p v → after ≡ apply_by op common p v → ChoiceFacts op p v after
+choice_at op p v after k e =
+    let a = applies op common p v k in
+    record { parts = subst IsRecordValue (sym e) (parts_stay (record { scope = common; op = op }) p a.0 v a.1); same = e }
+
+pub retag_facts : (op : FieldOp) (a b : List ℕ) (p : template.RecordParts) (v : value.RecordParts) (fs : List Field) → op ≡ retag a b → Some fs ≡ found_case a p.choice → Known op common p v → ChoiceFacts op p v (retagged_value a b fs p.rest v)
+retag_facts op a b p v fs is e k = choice_at op p v (retagged_value a b fs p.rest v) k (retagged_is a b p v fs p.choice v.tag e ∙ ap (λ o. apply_by o common p v) (sym is))
+
+-- the case is there
+pub retag_there : (op : FieldOp) (a b : List ℕ) (p : template.RecordParts) (v : value.RecordParts) → op ≡ retag a b → None ≡ found_case a p.choice → Known op common p v → ⊥
+retag_there op a b p v is e k = by p.choice e (ap (λ o. is_some (new_by o common p)) (sym is) ∙ k.fits)
+  where
+    by : (C : Option template.Cases) → None ≡ found_case a C → is_some (option_and_then (λ c. option_map (with_cases p) (retagged a b c)) C) ≡ true → ⊥
+    by None e h = true≢false (sym h)
+    by (Some c) e h = let none = ap is_some (sym e) in true≢false (sym h ∙ ap (λ x. is_some (option_map (with_cases p) (if_so (x && (not (has b c.1) && can_be_settled c.2 (fields_of_case a c))) (c.0, moved a b c.1, c.2)))) none)
+
+pub new_case_facts : (op : FieldOp) (l : List ℕ) (p : template.RecordParts) (v : value.RecordParts) (fs : List Field) → op ≡ add_case l fs → Known op common p v → ChoiceFacts op p v (cased_value l fs p.rest v)
+new_case_facts op l p v fs is k = choice_at op p v (cased_value l fs p.rest v) k (ap (λ o. apply_by o common p v) (sym is))
+
+-- its fields are distinct
+pub new_case_once : (op : FieldOp) (l : List ℕ) (p : template.RecordParts) (v : value.RecordParts) (fs : List Field) → op ≡ add_case l fs → Known op common p v → has_twice (keys_of fs) ≡ false
+new_case_once op l p v fs is k =
+    let r = some-there (new_by (add_case l fs) common p) (ap (λ o. is_some (new_by o common p)) (sym is) ∙ k.fits) in
+    new_names (λ n. false) l fs p r.0 r.1
 
 cased_at : (op : FieldOp) (l : List ℕ) (p : template.RecordParts) (v : value.RecordParts) → is_of_case l v.tag ≡ true → Known op (in_case l) p v → Facts op (in_case l) p v (case_fields l p) (in_cased v) (cased_after op (case_fields l p) v)
 cased_at op l p v t k =
@@ -142,6 +183,7 @@ no_scope l p e = ap (option_map (λ (ds : List Field). record { fields = ds; tak
 
 no_case_at : (op : FieldOp) (l : List ℕ) (p : template.RecordParts) → scoped (in_case l) p ≡ None → is_some (new_by op (in_case l) p) ≡ true → ⊥
 no_case_at (retag a b) l p e h = none_some _ (scoped (in_case l) p) e h
+no_case_at (add_case b fs) l p e h = none_some _ (scoped (in_case l) p) e h
 no_case_at op l p e h = none_some _ (scoped (in_case l) p) e h
 
 -- the case is there

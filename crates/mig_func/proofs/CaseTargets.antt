@@ -1,6 +1,6 @@
 -- The new record after a case gets another literal, and with a new case.
 use Rattle.std.proofs.Common.{◌≡◌, ℕ, List, [], ◌∷◌, ◌++◌, true, false, true≢false, Some, None, sym, ap, subst, ◌∙◌, arith}
-use Rattle.std.specs.Prelude.{not, ◌&&◌, is_some, option_map, option_and_then}
+use Rattle.std.specs.Prelude.{not, ◌&&◌, is_some, option_map, option_and_then, unwrap_or}
 use Rattle.std.specs.Map.{keys_of}
 use Rattle.mig_model.specs.Names.{Ascends, has_twice, under, has, without, put, put_all, bring, moved}
 use Rattle.mig_model.specs.Fields.{if_so}
@@ -9,7 +9,7 @@ use Rattle.mig_template.specs.Kept.{RecordKept}
 use Rattle.mig_template.specs.Parts.{Case, Cases, RecordParts, IsRecordOf, IsOrderOf, has_twice_in, is_twice_named, found_case}
 use Rattle.mig_model.proofs.OneOrder.{one_order}
 use Rattle.mig_action.specs.FieldFn.{common, retag, add_case}
-use Rattle.mig_action.specs.NewRecord.{new_by, with_cases, retagged, with_case, FieldType}
+use Rattle.mig_action.specs.NewRecord.{new_by, with_cases, can_be_settled, retagged, with_case, FieldType}
 use Rattle.mig_func.specs.New.{with_more, are_clear}
 use Rattle.mig_func.proofs.Tests.{any_never}
 use Rattle.mig_action.proofs.Edits.{none-there, under-without, ascends-without}
@@ -39,15 +39,16 @@ module _ (p : RecordParts) (c : Cases) (a b : List ℕ) (fs : List Field) (k : R
   apart : has b c.1 ≡ false
   apart = ap is_some (ap (found_case b) (sym is) ∙ free)
 
-  pub retag_made : c.2 ≡ false → (r : RecordParts) → IsRecordOf p.fields (with_more c.0 c.2 cs (m, es)) p.rest r → new_by (retag a b) common p ≡ Some r
-  retag_made strict r h =
+  pub retag_made : can_be_settled c.2 fs ≡ true → (r : RecordParts) → IsRecordOf p.fields (with_more c.0 c.2 cs (m, es)) p.rest r → new_by (retag a b) common p ≡ Some r
+  retag_made settles r h =
       let A = cases_are p c k is in
       let s = ascends-without a c.1 A.ascend in
       let o = order_itself fs (case_ascends_in c.1 A.each a fs there) in
       let made : r ≡ record p { choice = Some (c.0, put b fs (without a c.1), c.2) } =
       more_made p r c.0 c.2 (without a c.1) b fs fs k s (all_without a c.1 A.each) (has_less a b c.1 A.ascend apart) o (subst (λ o'. IsRecordOf p.fields o' p.rest r) retag_given h) in
       ap (option_and_then (λ d. option_map (with_cases p) (retagged a b d))) is
-      ∙ (λ i. option_map (with_cases p) (if_so (is_some (there i) && (not (apart i) && not (strict i))) (c.0, moved a b c.1, c.2)))
+      ∙ (λ i. option_map (with_cases p) (if_so (is_some (there i) && (not (apart i) && can_be_settled c.2 (unwrap_or (there i) []))) (c.0, moved a b c.1, c.2)))
+      ∙ ap (λ s. option_map (with_cases p) (if_so s (c.0, moved a b c.1, c.2))) settles
       ∙ sym (ap (λ q. Some q) (made ∙ (λ i. record p { choice = Some (c.0, moved_is a b fs c.1 A.ascend there apart i, c.2) })))
 
   pub retag_never : is_twice_named p.fields (with_more c.0 c.2 cs (m, es)) ≡ true → ⊥
@@ -68,9 +69,9 @@ module _ (p : RecordParts) (c : Cases) (b : List ℕ) (fs : List Field) (k : Rec
   twice_is : is_twice_named p.fields (with_more c.0 c.2 cs (m, es)) ≡ has_twice_in (c.0 ∷ keys_of p.fields) (b, fs)
   twice_is = let A = cases_are p c k is in ap (is_twice_named p.fields) new_given ∙ more_twice p.fields c.0 c.2 c.1 b fs A.ascend none A.tag A.none
 
-  pub new_case_made : c.2 ≡ false → are_clear fs ≡ true → (r : RecordParts) → IsRecordOf p.fields (with_more c.0 c.2 cs (m, es)) p.rest r → is_twice_named p.fields (with_more c.0 c.2 cs (m, es)) ≡ false
+  pub new_case_made : can_be_settled c.2 fs ≡ true → are_clear fs ≡ true → (r : RecordParts) → IsRecordOf p.fields (with_more c.0 c.2 cs (m, es)) p.rest r → is_twice_named p.fields (with_more c.0 c.2 cs (m, es)) ≡ false
       → new_by (add_case b fs) common p ≡ Some r
-  new_case_made strict clear r h good =
+  new_case_made settles clear r h good =
       let A = cases_are p c k is in
       let g : IsRecordOf p.fields (with_more c.0 c.2 c.1 (b, fs)) p.rest r = subst (λ o. IsRecordOf p.fields o p.rest r) new_given h in
       let once : has_twice (keys_of fs ++ c.0 ∷ keys_of p.fields) ≡ false = sym twice_is ∙ good in
@@ -79,11 +80,11 @@ module _ (p : RecordParts) (c : Cases) (b : List ℕ) (fs : List Field) (k : Rec
       let one : l.0 ≡ put_all fs [] = one_order fs l.0 (put_all fs []) l.1.same o.same l.1.ascend o.ascend in
       let made : r ≡ record p { choice = Some (c.0, put b l.0 c.1, c.2) } = more_made p r c.0 c.2 c.1 b fs l.0 k A.ascend A.each none l.1 g in
       ap (option_and_then (λ d. option_map (with_cases p) (with_case b fs p.fields d))) is
-      ∙ (λ i. option_map (with_cases p) (if_so (not (none i) && ((not (once i) && clear i) && not (strict i))) (c.0, put b (put_all fs []) c.1, c.2)))
+      ∙ (λ i. option_map (with_cases p) (if_so (not (none i) && ((not (once i) && clear i) && settles i)) (c.0, put b (put_all fs []) c.1, c.2)))
       ∙ sym (ap (λ q. Some q) (made ∙ (λ i. record p { choice = Some (c.0, put b (one i) c.1, c.2) })))
 
   pub new_case_twice : is_twice_named p.fields (with_more c.0 c.2 cs (m, es)) ≡ true → new_by (add_case b fs) common p ≡ None
   new_case_twice clash =
       let twice : has_twice (keys_of fs ++ c.0 ∷ keys_of p.fields) ≡ true = sym twice_is ∙ clash in
       ap (option_and_then (λ d. option_map (with_cases p) (with_case b fs p.fields d))) is
-      ∙ (λ i. option_map (with_cases p) (if_so (not (none i) && ((not (twice i) && are_clear fs) && not c.2)) (c.0, put b (put_all fs []) c.1, c.2)))
+      ∙ (λ i. option_map (with_cases p) (if_so (not (none i) && ((not (twice i) && are_clear fs) && can_be_settled c.2 fs)) (c.0, put b (put_all fs []) c.1, c.2)))

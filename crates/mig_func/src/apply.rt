@@ -1,9 +1,9 @@
 //! Field functions at record values.
-ghost use Rattle.std.specs.Prelude.{◌≡◌, ◌≤◌, ℕ, List, [], Some, false, is_some, option_map, unwrap_or, Contains, IfOk, IsTrue, if◌then◌else◌};
+ghost use Rattle.std.specs.Prelude.{◌≡◌, ◌≤◌, ℕ, List, [], Some, false, is_some, option_map, unwrap_or, Contains, IfOk, IsTrue};
 ghost use Rattle.std.specs.List.{AllByRecursion};
 ghost use Rattle.mig_model.specs.declared.form.Form.{Form};
 ghost use Rattle.mig_model.specs.Template as plain;
-ghost use Rattle.mig_model.specs.Names.{same_name, under};
+ghost use Rattle.mig_model.specs.Names.{under};
 ghost use Rattle.mig_model.specs.Plain.{on_entries};
 ghost use Rattle.mig_template.specs.Parts as template;
 ghost use Rattle.mig_template.specs.Parts.{found_case};
@@ -15,21 +15,23 @@ ghost use Rattle.mig_value.specs.View.{typed_of};
 ghost use Rattle.mig_slots.specs.View.{moving_of, IsOrdered};
 ghost use Rattle.mig_action.specs.FieldFn as action;
 ghost use Rattle.mig_template.specs.View.{template_of};
-ghost use Rattle.mig_action.specs.NewRecord.{new_record, inner_fields};
+ghost use Rattle.mig_action.specs.NewRecord.{new_by, new_record, inner_fields};
 ghost use Rattle.mig_action.specs.Act.{act, left_kind};
-ghost use Rattle.mig_action.specs.Moves.{move, fill_value, apply, is_of_case};
+ghost use Rattle.mig_action.specs.Moves.{move, fill_value, apply_by, apply};
 ghost use Rattle.mig_action.specs.Nodes.{nodes_at};
 ghost use Rattle.mig_value.specs.Nodes.{Test, nodes};
-ghost use Rattle.mig_func.specs.Ready.{IsReady, fields_within, tag_after, common_after, cased_after, in_common, in_cased};
+ghost use Rattle.mig_func.specs.New.{is_about_cases};
+ghost use Rattle.mig_func.specs.Ready.{IsReady, fields_within, common_after, cased_after, in_common, in_cased};
 ghost use Rattle.mig_func.specs.View.{fill_of, field_op_of, field_fn_of};
 
+use crate::settling::{give_case, has_literal, retag};
 use crate::{FieldFn, FieldOp, Fill, Scope};
 use mig_slots::{
     Moving, add, drop_field, fill_absent, forget, learn, map_leaf, nest, rename, unify, unnest,
     wrap,
 };
 use mig_template::{Fields, Record, Template};
-use mig_tree::{Kind, Memory, Name, Text};
+use mig_tree::{Kind, Memory, Name};
 use mig_value::{RecValue, Slots, Value, Values};
 use std::alloc::Global;
 
@@ -143,28 +145,6 @@ impl FieldOp {
         }
     }
 
-    /// The tag afterwards, which borrows a new literal.
-    fn new_tag<'a>(&'a self, tag: Option<(Text<'a>, Text<'a>)>) -> Option<(Text<'a>, Text<'a>)>
-        ensures { result ≡ tag_after (field_op_of self.now) tag.entry }
-    {
-        match self {
-            FieldOp::Retag(from, to) => retagged(tag, from, to),
-            FieldOp::Rename(_, _)
-            | FieldOp::Drop(_)
-            | FieldOp::Add(_, _)
-            | FieldOp::Learn(_, _)
-            | FieldOp::Forget(_)
-            | FieldOp::Default(_, _)
-            | FieldOp::MayBe(_)
-            | FieldOp::Map(_, _)
-            | FieldOp::Nest(_, _)
-            | FieldOp::Unnest(_)
-            | FieldOp::Wrap(_)
-            | FieldOp::Unify(_, _, _)
-            | FieldOp::AddCase(_, _) => tag,
-        }
-    }
-
     /// A record value after a function on its common fields.
     fn apply_common<'a>(
         &'a self,
@@ -182,10 +162,62 @@ impl FieldOp {
             rest: rest.into_vec(),
         };
         let Moving { slots, rest } = self.move_slots(alloc, fields, moving)?;
-        let tag = self.new_tag(tag);
         let known = Slots::new(slots);
         let rest = Slots::new(rest);
         RecValue::new(alloc, known, tag, cased, rest)
+    }
+
+    /// A record value of the record after a function on its common fields.
+    fn apply_fields<'a>(
+        &'a self,
+        alloc: Global,
+        on: &Record,
+        given: RecValue<'a>,
+    ) -> Result<RecValue<'a>, Memory>
+        requires about { is_about_cases (field_op_of self.now) ≡ false }
+        requires fits { IsTrue (is_some (new_by (field_op_of self.now) action.common on.now)) }
+        requires shape { Shape (template.record_of on.now) (value.record_of given) }
+        ensures { IfOk result (λ w. w ≡ apply_by (field_op_of self.now) action.common on.now given.entry) }
+    {
+        on.keeps();
+        given.keeps();
+        self.apply_common(alloc, on.fields(), given)
+    }
+
+    /// A record value after a function on its common fields or its cases.
+    fn apply_whole<'a>(
+        &'a self,
+        alloc: Global,
+        on: &Record,
+        given: RecValue<'a>,
+    ) -> Result<RecValue<'a>, Memory>
+        requires fits { IsTrue (is_some (new_by (field_op_of self.now) action.common on.now)) }
+        requires shape { Shape (template.record_of on.now) (value.record_of given) }
+        ensures { IfOk result (λ w. w ≡ apply_by (field_op_of self.now) action.common on.now given.entry) }
+    {
+        on.keeps();
+        given.keeps();
+        match self {
+            FieldOp::Retag(from, to) => match on.case(from.bytes()) {
+                Some(fields) => retag(alloc, fields, on.rest(), from, to, given),
+                None => Ok(given),
+            },
+            FieldOp::AddCase(literal, fields) => {
+                give_case(alloc, fields, on.rest(), literal, given)
+            }
+            FieldOp::Rename(_, _)
+            | FieldOp::Drop(_)
+            | FieldOp::Add(_, _)
+            | FieldOp::Learn(_, _)
+            | FieldOp::Forget(_)
+            | FieldOp::Default(_, _)
+            | FieldOp::MayBe(_)
+            | FieldOp::Map(_, _)
+            | FieldOp::Nest(_, _)
+            | FieldOp::Unnest(_)
+            | FieldOp::Wrap(_)
+            | FieldOp::Unify(_, _, _) => self.apply_fields(alloc, on, given),
+        }
     }
 
     /// A record value after a function on the fields of its case.
@@ -211,42 +243,6 @@ impl FieldOp {
     }
 }
 
-/// The tag with another literal, where it has the first.
-fn retagged<'a>(
-    tag: Option<(Text<'a>, Text<'a>)>,
-    from: &Name,
-    to: &'a Name,
-) -> Option<(Text<'a>, Text<'a>)>
-    ensures { result ≡ tag_after (action.retag from.now to.now) tag.entry }
-{
-    match tag {
-        Some((name, literal)) => Some((name, new_literal(literal, from, to))),
-        None => None,
-    }
-}
-
-/// The second literal for the first; any other stays.
-fn new_literal<'a>(literal: Text<'a>, from: &Name, to: &'a Name) -> Text<'a>
-    ensures { result ≡ (if same_name literal.entry from.now then to.now else literal.entry) }
-{
-    if literal.bytes().cmp(from.bytes()).is_eq() {
-        drop(literal);
-        Text::lent(to.bytes())
-    } else {
-        literal
-    }
-}
-
-/// Whether the record value's tag is the literal.
-fn has_literal(given: &RecValue, literal: &Name) -> bool
-    ensures { result ≡ is_of_case literal.now given.now.tag }
-{
-    match given.tag() {
-        Some((_, found)) => found.bytes().cmp(literal.bytes()).is_eq(),
-        None => false,
-    }
-}
-
 impl FieldFn {
     /// A record value after the function. Its texts and trees move; what is new borrows from the function.
     fn apply_to<'a>(
@@ -262,7 +258,7 @@ impl FieldFn {
         on.keeps();
         given.keeps();
         match &self.scope {
-            Scope::Common => self.op.apply_common(alloc, on.fields(), given),
+            Scope::Common => self.op.apply_whole(alloc, on, given),
             Scope::Case(literal) => {
                 if !has_literal(&given, literal) {
                     return Ok(given);

@@ -12,6 +12,7 @@ mod nests;
 mod ops;
 mod records;
 mod retags;
+mod settling;
 mod slots;
 mod target;
 

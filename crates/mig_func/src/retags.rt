@@ -1,7 +1,7 @@
 //! Records whose tag has another literal, or one more.
 ghost use Rattle.std.specs.Prelude.{◌≡◌, Some, None, true, false, map, IfOk, IfErr};
 ghost use Rattle.mig_action.specs.FieldFn.{common, retag, add_case};
-ghost use Rattle.mig_action.specs.NewRecord.{new_by};
+ghost use Rattle.mig_action.specs.NewRecord.{new_by, is_easy, are_easy, can_be_settled};
 ghost use Rattle.mig_template.specs.Parts.{found_case};
 ghost use Rattle.mig_template.specs.View.{field_of};
 ghost use Rattle.mig_func.specs.New.{IsMisfit, are_clear};
@@ -10,9 +10,39 @@ use crate::FuncFault;
 use crate::clear::is_clear;
 use crate::copies::copy_fields;
 use crate::records::{cases_but, copy_cases, with_more};
-use mig_template::{Choice, Field, Fields, Record};
+use mig_template::{Choice, Field, Fields, Presence, Record, Template};
 use mig_tree::Name;
 use std::alloc::Global;
+
+/// Whether any tree can be given the field: a leaf, which its zero stands for, or any tree that may be away.
+fn is_easy(field: &Field) -> bool
+    ensures { result ≡ is_easy (field_of field.now).1 }
+{
+    match &field.template {
+        Template::Leaf(kind) => kind.is_leaf(),
+        Template::Any => field.presence == Presence::May,
+        Template::List(_) | Template::Point(_) | Template::Rec(_) | Template::Sum(_, _) => false,
+    }
+}
+
+/// Whether each of the fields is easy.
+fn are_easy(fields: &[Field]) -> bool
+    ensures { result ≡ are_easy (map field_of fields.now) }
+{
+    for field in fields {
+        if !is_easy(field) {
+            return false;
+        }
+    }
+    true
+}
+
+/// Whether saves that were kept with a tag can be given these fields; where none are kept, nothing is asked.
+fn can_be_settled(kept: bool, fields: &[Field]) -> bool
+    ensures { result ≡ can_be_settled kept (map field_of fields.now) }
+{
+    !kept || are_easy(fields)
+}
 
 /// The record where the case of the first literal has the second.
 fn retag_case(
@@ -24,7 +54,7 @@ fn retag_case(
     to: &Name,
 ) -> Result<Record, FuncFault>
     requires same { on.now.choice ≡ Some choice.now }
-    requires strict { choice.now.2 ≡ false }
+    requires settles { can_be_settled choice.now.2 fields.now ≡ true }
     requires found { found_case from.now on.now.choice ≡ Some fields.now }
     requires apart { found_case to.now on.now.choice ≡ None }
     ensures made { IfOk result (λ r. new_by (retag from.now to.now) common on.now ≡ Some r) }
@@ -37,7 +67,7 @@ fn retag_case(
     with_more(alloc, on, choice, cases, literal, list)
 }
 
-/// The same, where the first literal has a case, the second has none, and no unknown tag is kept.
+/// The same, where the first literal has a case and the second none, and saves that were kept with the second can be given the case's fields.
 pub fn retagged(alloc: Global, on: &Record, from: &Name, to: &Name) -> Result<Record, FuncFault>
     ensures made { IfOk result (λ r. new_by (retag from.now to.now) common on.now ≡ Some r) }
     ensures misfit { IfErr result (λ e. IsMisfit e (new_by (retag from.now to.now) common on.now ≡ None)) }
@@ -45,12 +75,12 @@ pub fn retagged(alloc: Global, on: &Record, from: &Name, to: &Name) -> Result<Re
     let Some(choice) = on.choice() else {
         return Err(FuncFault::Misfit);
     };
-    if choice.kept() {
-        return Err(FuncFault::Misfit);
-    }
     let Some(fields) = on.case(from.bytes()) else {
         return Err(FuncFault::Misfit);
     };
+    if !can_be_settled(choice.kept(), fields.as_slice()) {
+        return Err(FuncFault::Misfit);
+    }
     match on.case(to.bytes()) {
         Some(_) => Err(FuncFault::Misfit),
         None => retag_case(alloc, on, choice, fields, from, to),
@@ -78,7 +108,7 @@ fn add_case(
     fields: &[Field],
 ) -> Result<Record, FuncFault>
     requires same { on.now.choice ≡ Some choice.now }
-    requires strict { choice.now.2 ≡ false }
+    requires settles { can_be_settled choice.now.2 (map field_of fields.now) ≡ true }
     requires apart { found_case literal.now on.now.choice ≡ None }
     requires clear { are_clear (map field_of fields.now) ≡ true }
     ensures made { IfOk result (λ r. new_by (add_case literal.now (map field_of fields.now)) common on.now ≡ Some r) }
@@ -92,7 +122,7 @@ fn add_case(
     with_more(alloc, on, choice, cases, name, list)
 }
 
-/// The same, where there is a choice that keeps no unknown tag, the literal has no case and the sums of the fields are clear.
+/// The same, where there is a choice, the literal has no case, the sums of the fields are clear, and saves that were kept with the literal can be given the fields.
 pub fn with_new_case(
     alloc: Global,
     on: &Record,
@@ -106,7 +136,7 @@ pub fn with_new_case(
     let Some(choice) = on.choice() else {
         return Err(FuncFault::Misfit);
     };
-    if choice.kept() || !are_clear(fields) {
+    if !can_be_settled(choice.kept(), fields) || !are_clear(fields) {
         return Err(FuncFault::Misfit);
     }
     match on.case(literal.bytes()) {

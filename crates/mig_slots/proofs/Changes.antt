@@ -17,7 +17,7 @@ use Rattle.std.proofs.lemmas.Cmp.{nat_list_cmp_total}
 use Rattle.mig_model.proofs.Searches.{not_found}
 
 module _ (x : List ℕ) where
-  value_here : (es : List Slot) (i : ℕ) → i < length es → AboveFirst (by_bytes x) es i → AnswersAt (by_bytes x) es i Equal → under x es ≡ Some (value_at i es)
+  pub value_here : (es : List Slot) (i : ℕ) → i < length es → AboveFirst (by_bytes x) es i → AnswersAt (by_bytes x) es i Equal → under x es ≡ Some (value_at i es)
   value_here [] i l a b = absurd (omega arith)
   value_here (e ∷ es) zero l a b = ap (λ o. if is_eq o then Some e.1 else under x es) b
   value_here (e ∷ es) (suc i) l a b = ap (λ o. if is_eq o then Some e.1 else under x es) a.0 ∙ value_here es i (omega arith) a.1 b

@@ -1,3 +1,4 @@
 pub mod View
 pub mod Fitting
 pub mod Sorted
+pub mod Behind

@@ -8,6 +8,7 @@ mod moving;
 mod names;
 mod naming;
 mod nesting;
+mod settling;
 
 pub use adding::{add, drop_field, fill_absent};
 pub use leaves::{map_leaf, unify, wrap};
@@ -16,3 +17,4 @@ pub use moving::Moving;
 pub use names::Names;
 pub use naming::{forget, learn, rename};
 pub use nesting::{nest, unnest};
+pub use settling::settle;

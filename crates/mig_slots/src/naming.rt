@@ -28,7 +28,7 @@ pub fn rename<'a>(mut moving: Moving<'a>, x: &Name, y: &'a Name) -> Result<Movin
 }
 
 /// The value's leaf, where it has the kind; any other value is let go.
-fn leaf_of_kind<'a>(value: Value<'a>, kind: Kind) -> Option<Value<'a>>
+pub(crate) fn leaf_of_kind<'a>(value: Value<'a>, kind: Kind) -> Option<Value<'a>>
     ensures { option_map typed_of result ≡ learned_value (Some kind) (typed_of value.entry) }
 {
     match value.leaf() {

@@ -99,7 +99,7 @@ fn keep_others(slots: &mut Vec<Slot>, fields: &Slots)
 }
 
 /// Keeps the slots whose names aren't declared.
-fn keep_undeclared(slots: &mut Vec<Slot>, fields: &Fields)
+pub(crate) fn keep_undeclared(slots: &mut Vec<Slot>, fields: &Fields)
     ensures { map slot_of slots.new.items ≡ others (keys_of fields.now) (map slot_of slots.old.items) }
 {
     slots.retain(|slot| !fields.has(slot.name.bytes()));

@@ -13,6 +13,6 @@ returns c =
     let made = new_case_made p c.args.choice.now c.args.literal.now fs c.keeps.ensures c.requires.same c.requires.apart cs c.in_ok-name.name es c.in_ok-cases.ensures c.in_ok-name.ensures c.in_ok-list.ensures in
     let twice = new_case_twice p c.args.choice.now c.args.literal.now fs c.keeps.ensures c.requires.same c.requires.apart cs c.in_ok-name.name es c.in_ok-cases.ensures c.in_ok-name.ensures c.in_ok-list.ensures in
     record {
-      made = ok_map2 c.with_more.result _ _ _ (made c.requires.strict c.requires.clear) c.with_more.ensures.made c.with_more.ensures.once;
+      made = ok_map2 c.with_more.result _ _ _ (made c.requires.settles c.requires.clear) c.with_more.ensures.made c.with_more.ensures.once;
       misfit = fault_map c.with_more.result _ _ twice c.with_more.ensures.misfit;
     }

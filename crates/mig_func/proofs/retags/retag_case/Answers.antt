@@ -19,6 +19,6 @@ returns c =
     let made = retag_made p ch c.args.from.now c.args.to.now c.args.fields.now c.keeps.ensures c.requires.same c.requires.found c.requires.apart cs c.in_ok-literal.literal es same c.in_ok-literal.ensures copied in
     let never = retag_never p ch c.args.from.now c.args.to.now c.args.fields.now c.keeps.ensures c.requires.same c.requires.found c.requires.apart cs c.in_ok-literal.literal es same c.in_ok-literal.ensures copied in
     record {
-      made = IfOk-weaker c.with_more.result _ _ (made c.requires.strict) c.with_more.ensures.made;
+      made = IfOk-weaker c.with_more.result _ _ (made c.requires.settles) c.with_more.ensures.made;
       misfit = fault_map c.with_more.result _ _ (λ h. absurd (never h)) c.with_more.ensures.misfit;
     }

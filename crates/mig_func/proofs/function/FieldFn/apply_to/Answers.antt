@@ -2,15 +2,8 @@ use Rattle.std.proofs.Common.{sym, ap, ◌∙◌}
 use Rattle.std.specs.Prelude.{option_map}
 use Rattle.mig_template.specs.Parts.{found_case}
 use Rattle.mig_func.specs.View.{scope_of, field_op_of}
-use Rattle.mig_func.proofs.Applied.{common_facts, cased_facts}
+use Rattle.mig_func.proofs.Applied.{cased_facts}
 use Rattle.mig_func.proofs.function.FieldFn.apply_to.Goals as goal
-
-pub apply_common-requires : goal.apply_common-requires
-apply_common-requires c =
-    let facts =
-    common_facts (field_op_of c.args.self.now.op) (scope_of c.args.self.now.scope) c.args.on.now c.args.given c.fields.result.now (ap scope_of c.in-Common.is) c.fields.ensures
-    (record { fits = c.requires.fits; record_kept = c.keeps.ensures; value_kept = c.keeps-2.ensures; shape = c.requires.shape }) in
-    record { ready = facts.ready; parts = facts.parts }
 
 pub apply_cased-requires : goal.apply_cased-requires
 apply_cased-requires c =

@@ -3,7 +3,7 @@ ghost use Rattle.std.specs.Prelude.{◌≡◌, ◌<◌, IsTrue, true};
 ghost use Rattle.mig_model.specs.declared.form.Form.TheVariants.{Json};
 ghost use Rattle.mig_model.specs.Family.{body, is_named};
 ghost use Rattle.mig_model.specs.Inhabits.{is_in_form};
-ghost use Rattle.mig_template.specs.Parts.{record_of};
+ghost use Rattle.mig_model.specs.Record.{record_of};
 ghost use Rattle.mig_tree.specs.View.{plain_of};
 ghost use Rattle.mig_value.specs.Fit.{Shape};
 ghost use Rattle.mig_value.specs.View.{typed_of};

@@ -6,18 +6,18 @@ use Rattle.std.specs.Prelude.{not, ◌&&◌, option_map, option_and_then, unwrap
 use Rattle.mig_model.specs.declared.kind.Kind.{Kind}
 use Rattle.mig_model.specs.Plain.{Plain}
 use Rattle.mig_model.specs.Template.{Field}
-use Rattle.mig_template.specs.Parts as template
-use Rattle.mig_template.specs.Parts.{IsRecord, found_case}
+use Rattle.mig_model.specs.Record as template
+use Rattle.mig_model.specs.Record.{IsRecord, found_case}
 use Rattle.mig_template.proofs.Names.{first_once}
 use Rattle.mig_template.proofs.Sorted.{once_if_ascends}
 use Rattle.mig_model.specs.Names.{has_twice, is_among, under, has, without, put, bring, put_all, those, others, changed}
 use Rattle.mig_value.specs.Typed.{Typed, atom, list, left, right, rec, no_item, item, Slot, Tag, slots, slots_of}
 use Rattle.mig_value.specs.Parts.{RecordParts, record_of}
 use Rattle.mig_value.specs.Nodes.{Test, nodes, nodes_in_slots}
-use Rattle.mig_action.specs.FieldFn.{Scope, common, in_case, Fill, FieldOp, rename, drop, add, learn, forget, default, map_leaf, nest, unnest, wrap, unify, retag, add_case, FieldFn}
+use Rattle.mig_field.specs.FieldFn.{Scope, common, in_case, Fill, FieldOp, rename, drop, add, learn, forget, default, map_leaf, nest, unnest, wrap, unify, retag, add_case, FieldFn}
 use Rattle.mig_model.specs.Leaf.{leaf_value}
-use Rattle.mig_action.specs.NewRecord.{FieldType, scoped, with_cases, fields_of_case, can_be_settled, can_be_case, with_case, new_by, new_record}
-use Rattle.mig_action.specs.Act.{inner_names, left_kind, unified, by_field}
+use Rattle.mig_field.specs.NewRecord.{FieldType, scoped, with_cases, fields_of_case, can_be_settled, can_be_case, with_case, new_by, new_record}
+use Rattle.mig_field.specs.Act.{inner_names, left_kind, unified, by_field}
 use Rattle.mig_action.specs.Moves.{Moving, move, fill_value, at_leaf, at_side, learned_value, open_record, inner_slots, with_moving, with_moving_case, is_of_case, settled_value, settle_case, retag_value, apply_by, apply}
 use Rattle.mig_action.proofs.Values.{so, mapped, then_some, none_then}
 use Rattle.mig_action.proofs.Distinct.{case_ascends}

@@ -7,8 +7,8 @@ use Rattle.mig_model.specs.declared.presence.Presence.{Presence}
 use Rattle.mig_model.specs.Names.{Ascends, same_name, has_twice, is_among, under, has}
 use Rattle.mig_model.specs.Template.{Template, Field, cases_of}
 use Rattle.mig_model.specs.Fields.{is_in_choice, is_case_field}
-use Rattle.mig_template.specs.Parts as template
-use Rattle.mig_template.specs.Parts.{RecordParts, IsRecord, choice_of, found_case, is_twice_named, is_twice_in, has_twice_in, CasesAscend}
+use Rattle.mig_model.specs.Record as template
+use Rattle.mig_model.specs.Record.{RecordParts, IsRecord, choice_of, found_case, is_twice_named, is_twice_in, has_twice_in, CasesAscend}
 use Rattle.std.proofs.lemmas.List.Folds.{list_any-append}
 use Rattle.mig_template.proofs.Names.{twice_in_both, first_once}
 use Rattle.mig_template.proofs.Sorted.{once_if_ascends}
@@ -16,10 +16,9 @@ use Rattle.mig_value.specs.Typed.{Typed, Tag}
 use Rattle.mig_value.specs.Parts as value
 use Rattle.mig_value.specs.Parts.{names_in, tag_name}
 use Rattle.mig_value.specs.Fit.{TagFits}
-use Rattle.mig_action.specs.NewRecord.{is_tag}
+use Rattle.mig_field.specs.NewRecord.{is_tag}
 use Rattle.mig_action.proofs.Stands.{RecordStands, stands_there, rest_apart, opened, case_of, has_either, field_is}
-use Rattle.mig_action.proofs.Edits.{found_in}
-use Rattle.mig_action.proofs.Orders.{among_is, none_of, none_among}
+use Rattle.mig_model.proofs.Edits.{found_in, among_is, none_of, none_among}
 use Rattle.mig_model.proofs.Bools.{second_false, split_or}
 use Rattle.mig_model.proofs.Rising.{nothing_ascends}
 use Rattle.mig_model.proofs.SameNames.{same_name_is}

@@ -6,14 +6,14 @@ use Rattle.mig_model.specs.declared.presence.Presence.{Presence}
 use Rattle.mig_model.specs.Plain.{Plain, pairs_of}
 use Rattle.mig_model.specs.Template.{Template, Field, fields_of, cases_of}
 use Rattle.mig_model.specs.Inhabits.{Entries, is_in_form, entries_in_form}
-use Rattle.mig_template.specs.Parts as template
-use Rattle.mig_template.specs.Parts.{found_case, choice_of}
-use Rattle.mig_template.specs.Kept as template_kept
+use Rattle.mig_model.specs.Record as template
+use Rattle.mig_model.specs.Record.{found_case, choice_of}
+use Rattle.mig_model.specs.TemplateKept as template_kept
 use Rattle.mig_value.specs.Typed.{Typed, Slot, slots_of, out, tag_pair}
 use Rattle.mig_value.specs.Parts as value
 use Rattle.mig_value.specs.Kept as value_kept
 use Rattle.mig_model.specs.Names.{under}
-use Rattle.mig_action.proofs.Edits.{first, found_in}
+use Rattle.mig_model.proofs.Edits.{first, found_in}
 use Rattle.mig_action.proofs.Orders.{pairs_of_record, under_record}
 use Rattle.mig_model.proofs.Bools.{split_and}
 

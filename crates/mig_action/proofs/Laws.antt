@@ -4,15 +4,15 @@ use Rattle.std.specs.Prelude.{is_some, Contains}
 use Rattle.std.specs.List.{AllByRecursion}
 use Rattle.mig_model.specs.Plain as plain
 use Rattle.mig_model.specs.Plain.{pairs_of, entries, on_entries}
-use Rattle.mig_template.specs.Parts as template
+use Rattle.mig_model.specs.Record as template
 use Rattle.mig_value.specs.Typed.{Typed, out, tag_pair}
 use Rattle.mig_value.specs.Parts as value
 use Rattle.mig_value.specs.Parts.{NodeParts, IsRecordValue}
 use Rattle.mig_value.specs.Fit.{ValueFits, Fit, IsOfForm}
 use Rattle.mig_model.specs.Names.{under, has}
-use Rattle.mig_action.specs.NewRecord.{is_tag}
-use Rattle.mig_action.specs.FieldFn.{FieldFn}
-use Rattle.mig_action.specs.Act.{act}
+use Rattle.mig_field.specs.NewRecord.{is_tag}
+use Rattle.mig_field.specs.FieldFn.{FieldFn}
+use Rattle.mig_field.specs.Act.{act}
 use Rattle.mig_action.specs.Moves.{apply}
 use Rattle.mig_action.specs.Nodes.{nodes_at}
 use Rattle.mig_action.specs.Laws.{Applies, TreeActs, ShapeStays, FitStays, NodesStay, NoMoreNodes, PartsStay}

@@ -1,8 +1,6 @@
-pub mod Edits
 pub mod Stands
 pub mod Settings
 pub mod OneName
-pub mod Same
 pub mod Values
 pub mod Orders
 pub mod Several

@@ -8,9 +8,9 @@ use Rattle.mig_model.specs.Template.{Template, Field}
 use Rattle.mig_model.specs.Inhabits.{Entries}
 use Rattle.mig_value.specs.Typed.{Typed, out}
 use Rattle.mig_value.specs.Fit.{ValueFits}
-use Rattle.mig_action.specs.NewRecord.{Scoped}
+use Rattle.mig_field.specs.NewRecord.{Scoped}
 use Rattle.mig_action.specs.Moves.{Moving}
-use Rattle.mig_action.proofs.Edits.{first, at_name, unaffected, changed_at, bring_at, under-put, under-without, ascends-put, ascends-without, ascends-bring, ascends-changed}
+use Rattle.mig_model.proofs.Edits.{first, at_name, unaffected, changed_at, bring_at, under-put, under-without, ascends-put, ascends-without, ascends-bring, ascends-changed}
 use Rattle.mig_action.proofs.Stands.{Stands, IsRest}
 use Rattle.mig_action.proofs.Settings.{Setting, Mapped, Changed, changed_setting, changed_map, first-none, own_rest, own_away, own_tree, free_slot, not_away}
 use Rattle.mig_model.proofs.SameNames.{same_name_is}

@@ -12,22 +12,23 @@ use Rattle.mig_model.specs.Leaf.{LeafFn, leaf_value}
 use Rattle.mig_value.specs.Typed.{Typed, no_item, item, out}
 use Rattle.mig_value.specs.Typed as typed
 use Rattle.mig_value.specs.Fit.{ValueFits}
-use Rattle.mig_action.specs.FieldFn.{Fill, fill_template, fill_tree, rename, add, learn, default, map_leaf, wrap, unify, FieldOp, drop, forget, maybe, nest, unnest}
-use Rattle.mig_action.specs.NewRecord.{Scoped, FieldType, is_free, filled, lessened, learned, can_be_learned, leaf_after, leaf_of_both, with_template, at_field, inner_fields, unnest_slot, new_fields}
-use Rattle.mig_action.specs.SameTemplate.{same_template}
-use Rattle.mig_action.specs.Act.{edit, is_learned, left_kind, unified}
+use Rattle.mig_field.specs.FieldFn.{Fill, fill_template, fill_tree, rename, add, learn, default, map_leaf, wrap, unify, FieldOp, drop, forget, maybe, nest, unnest}
+use Rattle.mig_field.specs.NewRecord.{Scoped, FieldType, is_free, filled, lessened, learned, can_be_learned, leaf_after, leaf_of_both, with_template, at_field, inner_fields, unnest_slot, new_fields}
+use Rattle.mig_field.specs.SameTemplate.{same_template}
+use Rattle.mig_field.specs.Act.{edit, is_learned, left_kind, unified}
 use Rattle.mig_action.specs.Moves.{Moving, move, fill_value, at_leaf, at_side, learned_value}
-use Rattle.mig_action.proofs.Edits.{none-there, put_without, bring_without, under-without, ascends-put, ascends-without, ascends-bring}
+use Rattle.mig_model.proofs.Edits.{put_without, bring_without, under-without, ascends-put, ascends-without, ascends-bring}
+use Rattle.mig_model.proofs.Options.{none-there}
 use Rattle.mig_action.proofs.Stands.{Stands, IsRest}
 use Rattle.mig_action.proofs.Settings.{Setting, Mapped, first-none, own_tree, free_tree}
 use Rattle.mig_action.proofs.OneName.{Settled, at_one, dropped, retyped, kept, given, brought, forgotten}
-use Rattle.mig_action.proofs.Same.{same_is}
+use Rattle.mig_field.proofs.Same.{same_is}
 use Rattle.mig_action.proofs.Values.{so, mapped, then_some, fill_fits, fill_out, Learned, learned_tree, learned_stands, leaf_stands, leaf_same, sum_stands, sum_same}
 use Rattle.mig_model.proofs.Bools.{split_and}
 use Rattle.mig_model.proofs.SameNames.{same_name_is}
 use Rattle.mig_model.specs.declared.presence.Presence.{Presence}
 use Rattle.mig_model.specs.declared.rest.Rest.{Rest}
-use Rattle.mig_template.specs.Kept as template_kept
+use Rattle.mig_model.specs.TemplateKept as template_kept
 use Rattle.mig_value.specs.Kept as value_kept
 use Rattle.mig_action.proofs.Several.{nests, unnests}
 use Rattle.mig_model.specs.Fields.{if_so}

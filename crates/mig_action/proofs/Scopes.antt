@@ -9,18 +9,19 @@ use Rattle.mig_model.specs.Names.{Ascends, same_name, under, has, put}
 use Rattle.mig_model.specs.Template.{Template, Field, cases_of, is_open}
 use Rattle.mig_model.specs.Fields.{is_in_choice, is_case_field}
 use Rattle.mig_model.specs.Inhabits.{Entries}
-use Rattle.mig_template.specs.Parts as template
-use Rattle.mig_template.specs.Parts.{IsRecord, choice_of, found_case}
-use Rattle.mig_template.specs.Kept as template_kept
+use Rattle.mig_model.specs.Record as template
+use Rattle.mig_model.specs.Record.{IsRecord, choice_of, found_case}
+use Rattle.mig_model.specs.TemplateKept as template_kept
 use Rattle.mig_value.specs.Typed.{Typed, Slot, Tag, out, tag_pair}
 use Rattle.mig_value.specs.Parts as value
 use Rattle.mig_value.specs.Fit.{TagFits, has_literal, has_unknown_tag}
 use Rattle.mig_value.specs.Kept as value_kept
-use Rattle.mig_action.specs.FieldFn.{FieldOp}
-use Rattle.mig_action.specs.NewRecord.{Scoped, is_tag, new_fields}
-use Rattle.mig_action.specs.Act.{edit}
+use Rattle.mig_field.specs.FieldFn.{FieldOp}
+use Rattle.mig_field.specs.NewRecord.{Scoped, is_tag, new_fields}
+use Rattle.mig_field.specs.Act.{edit}
 use Rattle.mig_action.specs.Moves.{Moving, move, with_moving, with_moving_case}
-use Rattle.mig_action.proofs.Edits.{first, none-there, same_under, under-put}
+use Rattle.mig_model.proofs.Edits.{first, same_under, under-put}
+use Rattle.mig_model.proofs.Options.{none-there}
 use Rattle.mig_action.proofs.Stands.{Stands, IsRest, none_stands, stands_there, RecordStands, opened, case_of, has_either, field_is, literal_is}
 use Rattle.mig_action.proofs.Settings.{Setting, Mapped}
 use Rattle.mig_action.proofs.Orders.{pairs_of_record, under_record, ascends-in_order, pairs_by_list}

@@ -7,9 +7,9 @@ use Rattle.mig_model.specs.Names.{Ascends, under, has}
 use Rattle.mig_model.specs.Template.{Template, Field}
 use Rattle.mig_model.specs.Inhabits.{Entries}
 use Rattle.mig_value.specs.Typed.{Typed, out}
-use Rattle.mig_action.specs.NewRecord.{Scoped}
+use Rattle.mig_field.specs.NewRecord.{Scoped}
 use Rattle.mig_action.specs.Moves.{Moving}
-use Rattle.mig_action.proofs.Edits.{first}
+use Rattle.mig_model.proofs.Edits.{first}
 use Rattle.mig_action.proofs.Stands.{Stands, IsRest, none_stands, no_rest}
 
 -- the slots are those of the scope's fields, the unknown ones are no field's; `away` are the names elsewhere in the value, which no field of the scope has

@@ -14,18 +14,19 @@ use Rattle.mig_model.specs.Template.{leaf, any, Field, is_leaf, is_must, is_open
 use Rattle.mig_model.specs.Fields.{if_so}
 use Rattle.mig_model.specs.Const.{const_tree}
 use Rattle.mig_model.specs.Inhabits.{Entries}
-use Rattle.mig_template.specs.Parts as template
-use Rattle.mig_template.specs.Parts.{choice_of, found_case}
+use Rattle.mig_model.specs.Record as template
+use Rattle.mig_model.specs.Record.{choice_of, found_case}
 use Rattle.mig_value.specs.Typed.{Typed, atom, Slot, Tag, out, tag_pair}
 use Rattle.mig_value.specs.Parts as value
-use Rattle.mig_action.specs.FieldFn.{zero}
-use Rattle.mig_action.specs.NewRecord.{FieldType, is_easy, are_easy}
-use Rattle.mig_action.specs.Act.{by_field, settled_tree, where_closed, settle}
+use Rattle.mig_field.specs.FieldFn.{zero}
+use Rattle.mig_field.specs.NewRecord.{FieldType, is_easy, are_easy}
+use Rattle.mig_field.specs.Act.{by_field, settled_tree, where_closed, settle}
 use Rattle.mig_action.specs.Moves.{settled_value, settle_case, learned_value}
-use Rattle.mig_action.proofs.Edits.{first, none-there, found_in, same_under, under-bring, under-put_all, under-those, under-others, ascends-put, ascends-put_all, ascends-those, ascends-others}
+use Rattle.mig_model.proofs.Edits.{first, found_in, same_under, under-bring, under-put_all, under-those, under-others, ascends-put, ascends-put_all, ascends-those, ascends-others, among_is}
+use Rattle.mig_model.proofs.Options.{none-there}
 use Rattle.mig_action.proofs.Stands.{Stands, IsRest, none_stands, opened, case_of, has_either, literal_is}
 use Rattle.mig_action.proofs.Values.{Learned, learned_tree, learned_stands}
-use Rattle.mig_action.proofs.Orders.{pairs_of_record, under_record, ascends-in_order, pairs_by_list, among_is}
+use Rattle.mig_action.proofs.Orders.{pairs_of_record, under_record, ascends-in_order, pairs_by_list}
 use Rattle.mig_action.proofs.Distinct.{distinct_of}
 use Rattle.mig_action.proofs.Scopes.{Suits, Becomes, tag_under}
 use Rattle.std.proofs.lemmas.Bool.{false_from_ne_true}

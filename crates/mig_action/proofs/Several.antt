@@ -12,22 +12,23 @@ use Rattle.mig_model.specs.Plain.{Plain, pairs_of, entries}
 use Rattle.mig_model.specs.Names.{Ascends, same_name, is_among, under, has, without, put, put_all, those, others}
 use Rattle.mig_model.specs.Template.{Template, rec, Field, Fields, fields_of, field_list, no_choice, is_must, is_open}
 use Rattle.mig_model.specs.Inhabits.{Entries}
-use Rattle.mig_template.specs.Parts as template
+use Rattle.mig_model.specs.Record as template
 use Rattle.mig_value.specs.Typed.{Typed, Slot, Slots, Tag, slots, slots_of, no_slot, out, tag_pair}
 use Rattle.mig_value.specs.Typed as typed
 use Rattle.mig_value.specs.Parts as value
 use Rattle.mig_value.specs.Fit.{ValueFits, TagFits}
 use Rattle.mig_value.specs.Kept as value_kept
 use Rattle.mig_laws.proofs.Reading.{fields_of_list}
-use Rattle.mig_action.specs.FieldFn.{nest, unnest}
-use Rattle.mig_action.specs.NewRecord.{Scoped, is_free, can_nest, unnested}
-use Rattle.mig_action.specs.Act.{edit, pairs_in, inner_names}
+use Rattle.mig_field.specs.FieldFn.{nest, unnest}
+use Rattle.mig_field.specs.NewRecord.{Scoped, is_free, can_nest, unnested}
+use Rattle.mig_field.specs.Act.{edit, pairs_in, inner_names}
 use Rattle.mig_action.specs.Moves.{Moving, move, open_record, inner_slots}
-use Rattle.mig_action.proofs.Edits.{first, none-there, under-put, under-without, under-those, under-others, under-put_all, put_without, same_under, ascends-put, ascends-without, ascends-those, ascends-others, ascends-put_all}
+use Rattle.mig_model.proofs.Edits.{first, under-put, under-without, under-those, under-others, under-put_all, put_without, same_under, ascends-put, ascends-without, ascends-those, ascends-others, ascends-put_all, among_is, all_names}
+use Rattle.mig_model.proofs.Options.{none-there}
 use Rattle.mig_action.proofs.Stands.{Stands, IsRest, stands_none, none_stands, no_rest, fits_stand, stand_fits, case_of, has_either}
 use Rattle.mig_action.proofs.Settings.{Setting, Mapped, first-none, own_tree, own_rest, own_away, free_slot, not_away}
 use Rattle.mig_action.proofs.OneName.{Settled, settled}
-use Rattle.mig_action.proofs.Orders.{pairs_by_list, pairs_of_record, under_record, ascends-in_order, among_is, all_names}
+use Rattle.mig_action.proofs.Orders.{pairs_by_list, pairs_of_record, under_record, ascends-in_order}
 use Rattle.mig_model.proofs.Rising.{nothing_ascends}
 use Rattle.mig_model.specs.Kinds.{entries_of_pairs}
 use Rattle.mig_model.proofs.SameNames.{same_name_is}

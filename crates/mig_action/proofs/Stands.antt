@@ -6,15 +6,16 @@ use Rattle.mig_model.specs.Names.{Ascends, under, same_name, has}
 use Rattle.mig_model.specs.Template.{Template, Field, fields_of, cases_of, is_must, is_open}
 use Rattle.mig_model.specs.Fields.{is_field}
 use Rattle.mig_model.specs.Inhabits.{Entries, has_musts}
-use Rattle.mig_template.specs.Parts as template
-use Rattle.mig_template.specs.Parts.{RecordParts, choice_of, found_case}
+use Rattle.mig_model.specs.Record as template
+use Rattle.mig_model.specs.Record.{RecordParts, choice_of, found_case}
 use Rattle.mig_template.proofs.Views.{field_list_of}
 use Rattle.mig_value.specs.Typed.{Typed, Slot, Tag, slots_of, out, out_slots}
 use Rattle.mig_value.specs.Parts as value
 use Rattle.mig_value.specs.Parts.{record_of}
 use Rattle.mig_value.specs.Fit.{ValueFits, FieldsFit, CasesFit, ChoiceFits, EachSlot, TagFits, IsUnknown, has_literal, has_case_musts, has_cased_musts, has_unknown_tag, is_field_of_case, is_cased}
-use Rattle.mig_action.specs.NewRecord.{is_tag}
-use Rattle.mig_action.proofs.Edits.{found_in, none-there, under_past, ascends-tail, under-itself}
+use Rattle.mig_field.specs.NewRecord.{is_tag}
+use Rattle.mig_model.proofs.Edits.{found_in, under_past, ascends-tail, under-itself}
+use Rattle.mig_model.proofs.Options.{none-there}
 use Rattle.mig_model.proofs.Bools.{split_and, split_or, both_true, both_false}
 
 -- a value under the name of a field

@@ -13,13 +13,12 @@ use Rattle.mig_leaf.proofs.KindOut.{value_has_kind, const_has_kind}
 use Rattle.mig_value.specs.Typed.{Typed, atom, left, right, point, out}
 use Rattle.mig_value.specs.Leaf.{leaf_of}
 use Rattle.mig_value.specs.Fit.{ValueFits}
-use Rattle.mig_laws.proofs.Tests.{same_kind_is}
-use Rattle.mig_action.specs.FieldFn.{Fill, constant, empty_list, fill_template, fill_tree}
-use Rattle.mig_action.specs.NewRecord.{learned, can_be_learned, leaf_after, leaf_of_both, common_kind}
-use Rattle.mig_action.specs.Act.{is_learned, unified}
+use Rattle.mig_model.proofs.SameNames.{same_kind_is, same_kind_itself}
+use Rattle.mig_field.specs.FieldFn.{Fill, constant, empty_list, fill_template, fill_tree}
+use Rattle.mig_field.specs.NewRecord.{learned, can_be_learned, leaf_after, leaf_of_both, common_kind}
+use Rattle.mig_field.specs.Act.{is_learned, unified}
 use Rattle.mig_action.specs.Moves.{fill_value, at_leaf, at_side, leaf_of_kind, learned_value}
 use Rattle.mig_action.proofs.Stands.{Stands, IsRest}
-use Rattle.mig_model.proofs.SameNames.{same_kind_itself}
 
 -- ---- if_so
 pub so : {A : Type 0} (b : Bool) (a c : A) → if_so b a ≡ Some c → (b ≡ true) × (a ≡ c)

@@ -10,19 +10,20 @@ use Rattle.mig_model.specs.Names.{under, same_name, has_twice, has, put, put_all
 use Rattle.mig_model.specs.Template.{Template, Field}
 use Rattle.mig_model.specs.Fields.{is_in_choice}
 use Rattle.mig_model.specs.Inhabits.{has_tag, is_text}
-use Rattle.mig_template.specs.Parts as template
-use Rattle.mig_template.specs.Parts.{choice_of, found_case, is_twice_in}
+use Rattle.mig_model.specs.Record as template
+use Rattle.mig_model.specs.Record.{choice_of, found_case, is_twice_in}
 use Rattle.mig_value.specs.Typed.{Typed, Slot, Tag, out}
 use Rattle.mig_value.specs.Parts as value
-use Rattle.mig_action.specs.FieldFn.{Scope, common, in_case, FieldOp, retag, add_case, FieldFn}
-use Rattle.mig_action.specs.NewRecord.{scoped, with_fields, new_fields, with_cases, are_easy, can_be_settled, fields_of_case, retagged, can_be_case, with_case, new_by, new_record}
-use Rattle.mig_action.specs.Act.{edit, edit_case, act_by, act, settle, with_tag, with_new_case}
+use Rattle.mig_field.specs.FieldFn.{Scope, common, in_case, FieldOp, retag, add_case, FieldFn}
+use Rattle.mig_field.specs.NewRecord.{scoped, with_fields, new_fields, with_cases, are_easy, can_be_settled, fields_of_case, retagged, can_be_case, with_case, new_by, new_record}
+use Rattle.mig_field.specs.Act.{edit, edit_case, act_by, act, settle, with_tag, with_new_case}
 use Rattle.mig_action.specs.Moves.{Moving, move, with_moving, with_moving_case, is_of_case, settle_case, retag_value, apply_by, apply}
-use Rattle.mig_action.proofs.Edits.{first, some-there, same_under, under-put, under-put_all, under-moved, ascends-put, ascends-put_all}
+use Rattle.mig_model.proofs.Edits.{first, same_under, under-put, under-put_all, under-moved, ascends-put, ascends-put_all, among_is}
+use Rattle.mig_model.proofs.Options.{some-there}
 use Rattle.mig_action.proofs.Stands.{none_stands, case_of, literal_is}
 use Rattle.mig_action.proofs.Values.{so, mapped, none_then}
 use Rattle.mig_action.proofs.Settings.{first-none}
-use Rattle.mig_action.proofs.Orders.{pairs_of_record, under_record, ascends-in_order, pairs_by_list, among_is}
+use Rattle.mig_action.proofs.Orders.{pairs_of_record, under_record, ascends-in_order, pairs_by_list}
 use Rattle.mig_action.proofs.Distinct.{distinct_of, apart_in, case_apart, case_ascends}
 use Rattle.mig_action.proofs.Scopes.{Suits, Becomes, common_becomes, case_becomes, choice_becomes}
 use Rattle.mig_action.proofs.Settling.{settled}

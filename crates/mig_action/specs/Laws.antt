@@ -4,16 +4,16 @@ use Rattle.std.specs.List.{AllByRecursion}
 use Rattle.mig_model.specs.declared.form.Form.{Form}
 use Rattle.mig_model.specs.Template.{Template}
 use Rattle.mig_model.specs.Plain.{on_entries}
-use Rattle.mig_template.specs.Parts as template
-use Rattle.mig_template.specs.Kept as template_kept
+use Rattle.mig_model.specs.Record as template
+use Rattle.mig_model.specs.TemplateKept as template_kept
 use Rattle.mig_value.specs.Typed.{out}
 use Rattle.mig_value.specs.Parts as value
 use Rattle.mig_value.specs.Parts.{IsRecordValue}
 use Rattle.mig_value.specs.Kept as value_kept
 use Rattle.mig_value.specs.Fit.{ValueFits, Shape, Fit, IsOfForm}
-use Rattle.mig_action.specs.FieldFn.{FieldFn}
-use Rattle.mig_action.specs.NewRecord.{new_record}
-use Rattle.mig_action.specs.Act.{act}
+use Rattle.mig_field.specs.FieldFn.{FieldFn}
+use Rattle.mig_field.specs.NewRecord.{new_record}
+use Rattle.mig_field.specs.Act.{act}
 use Rattle.mig_action.specs.Moves.{apply}
 use Rattle.mig_action.specs.Nodes.{nodes_at}
 use Rattle.mig_value.specs.Nodes.{Test, nodes}

@@ -11,14 +11,14 @@ use Rattle.mig_model.specs.Const.{const_tree}
 use Rattle.mig_model.specs.Names.{same_name, under, has, without, put, bring, put_all, moved, those, others, changed}
 use Rattle.mig_model.specs.Fields.{if_so}
 use Rattle.mig_model.specs.Leaf.{leaf_value}
-use Rattle.mig_template.specs.Parts as template
-use Rattle.mig_template.specs.Parts.{found_case}
+use Rattle.mig_model.specs.Record as template
+use Rattle.mig_model.specs.Record.{found_case}
 use Rattle.mig_value.specs.Typed.{Typed, atom, list, left, right, rec, Slot, Tag, no_item, item, no_slot, slots, slots_of}
 use Rattle.mig_value.specs.Parts.{RecordParts}
 use Rattle.mig_value.specs.Leaf.{leaf_of}
-use Rattle.mig_action.specs.FieldFn.{Scope, common, in_case, Fill, constant, empty_list, fill_tree, zero, FieldOp, rename, drop, add, learn, forget, default, maybe, map_leaf, nest, unnest, wrap, unify, retag, add_case, FieldFn}
-use Rattle.mig_action.specs.NewRecord.{FieldType, fields_of_case}
-use Rattle.mig_action.specs.Act.{inner_names, left_kind, unified, by_field}
+use Rattle.mig_field.specs.FieldFn.{Scope, common, in_case, Fill, constant, empty_list, fill_tree, zero, FieldOp, rename, drop, add, learn, forget, default, maybe, map_leaf, nest, unnest, wrap, unify, retag, add_case, FieldFn}
+use Rattle.mig_field.specs.NewRecord.{FieldType, fields_of_case}
+use Rattle.mig_field.specs.Act.{inner_names, left_kind, unified, by_field}
 
 abbrev pub fill_value : Fill → Typed
 fill_value (constant c) = atom (fill_tree (constant c))

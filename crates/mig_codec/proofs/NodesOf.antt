@@ -22,8 +22,8 @@ use Rattle.mig_model.specs.Family.{Family, body, IsFormed}
 use Rattle.mig_laws.specs.Sides.{is_side, AreSides, SumsApart, FieldsApart, ChoiceApart, CasesApart}
 use Rattle.mig_laws.proofs.Formed.{body_apart}
 use Rattle.mig_laws.proofs.Reading.{tag_is}
-use Rattle.mig_template.specs.Parts.{has_twice_in, is_twice_in, is_twice_named, cases_in}
-use Rattle.mig_template.specs.Kept as kept
+use Rattle.mig_model.specs.Record.{has_twice_in, is_twice_in, is_twice_named, cases_in}
+use Rattle.mig_model.specs.TemplateKept as kept
 use Rattle.mig_template.proofs.Found.{among_is_found}
 use Rattle.mig_value.specs.Typed as typed
 use Rattle.mig_value.specs.Typed.{Typed, Items, no_item, item, Slots, no_slot, slot, slots, slots_of, out, out_items, out_slots, tag_pair, in_order, Tag, typed_size}

@@ -6,8 +6,8 @@ use Rattle.mig_model.specs.declared.presence.Presence.{Presence}
 use Rattle.mig_model.specs.Template.{Template, list, sum, Field, fields_of, cases_of}
 use Rattle.mig_model.specs.Names.{same_name, under}
 use Rattle.mig_model.specs.Family.{Family, unguarded, find_type, any_inside, any_in_fields, any_in_choice, any_in_cases, is_point, has_point_side, IsFormed}
-use Rattle.mig_template.specs.Parts as parts
-use Rattle.mig_template.specs.Parts.{RecordParts, found_case, choice_of, record_of}
+use Rattle.mig_model.specs.Record as parts
+use Rattle.mig_model.specs.Record.{RecordParts, found_case, choice_of, record_of}
 use Rattle.mig_template.specs.Size.{template_size, fields_size, choice_size, cases_size}
 use Rattle.mig_laws.proofs.Formed.{no_flaw}
 use Rattle.mig_laws.proofs.Named.{by_name, found_has}

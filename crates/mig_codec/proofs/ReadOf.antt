@@ -15,7 +15,7 @@ use Rattle.mig_model.specs.Family.{Family, find_type, body, IsFormed}
 use Rattle.mig_model.specs.Place.{Place, Wrong, named, sooner, place_under, at_name, wrong_item, wrong_entry, place}
 use Rattle.mig_laws.proofs.Laws.{place_unfolds}
 use Rattle.mig_laws.proofs.Reading.{wrong_left, wrong_right}
-use Rattle.mig_template.specs.Parts as parts
+use Rattle.mig_model.specs.Record as parts
 use Rattle.mig_value.specs.Typed as typed
 use Rattle.mig_value.specs.Typed.{Typed, items_of}
 use Rattle.mig_value.specs.Parts as values

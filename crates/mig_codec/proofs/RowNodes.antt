@@ -12,8 +12,8 @@ use Rattle.mig_model.specs.Inhabits.{Entries}
 use Rattle.mig_model.specs.Family.{Family}
 use Rattle.mig_model.specs.Fields.{find_field}
 use Rattle.mig_model.specs.Template.{Field, Fields, no_field, field, fields_of, cases_of}
-use Rattle.mig_template.specs.Parts as parts
-use Rattle.mig_template.specs.Parts.{RecordParts, choice_of, record_of}
+use Rattle.mig_model.specs.Record as parts
+use Rattle.mig_model.specs.Record.{RecordParts, choice_of, record_of}
 use Rattle.mig_laws.proofs.Reading.{tag_is}
 use Rattle.mig_laws.proofs.Named.{told_by_name}
 use Rattle.mig_value.specs.Nodes.{Test, count, tree_nodes, sum_entries, tally, tally_fields, tally_choice, tally_cases}

@@ -15,9 +15,9 @@ use Rattle.mig_model.specs.Inhabits.{Entries, is_text, is_some_text, has_text}
 use Rattle.mig_model.specs.Family.{Family}
 use Rattle.mig_model.specs.Place.{Place, Wrong, sooner, place_under, at_name, missing, is_tagged, unless, wrong_entry, wrong_map, wrong_fields, wrong_choice, wrong_cases, place}
 use Rattle.mig_model.specs.Template.{Field, fields_of, cases_of, is_open}
-use Rattle.mig_template.specs.Kept.{RecordKept}
-use Rattle.mig_template.specs.Parts as parts
-use Rattle.mig_template.specs.Parts.{RecordParts, found_case, choice_of, record_of, is_twice_named, is_twice_in, has_twice_in}
+use Rattle.mig_model.specs.TemplateKept.{RecordKept}
+use Rattle.mig_model.specs.Record as parts
+use Rattle.mig_model.specs.Record.{RecordParts, found_case, choice_of, record_of, is_twice_named, is_twice_in, has_twice_in}
 use Rattle.mig_laws.proofs.Reading.{wrong_if_tagged, wrong_if_not_tagged, no_literal, literal_told, missing_of, missing_told, wrong_of, wrong_told}
 use Rattle.mig_laws.proofs.Named.{told_by_name, found_has}
 use Rattle.mig_codec.specs.Parted.{IsRow, HasTag, wrong_pair, wrong_row}

@@ -11,8 +11,8 @@ use Rattle.mig_model.specs.Inhabits.{Entries, has_musts}
 use Rattle.mig_model.specs.Family.{Family, body}
 use Rattle.mig_model.specs.Fields.{is_field}
 use Rattle.mig_model.specs.Template.{Field, fields_of, choice, cases_of, is_open, no_field, no_choice}
-use Rattle.mig_template.specs.Parts as parts
-use Rattle.mig_template.specs.Parts.{RecordParts, choice_of}
+use Rattle.mig_model.specs.Record as parts
+use Rattle.mig_model.specs.Record.{RecordParts, choice_of}
 use Rattle.mig_template.proofs.Views.{field_list_of}
 use Rattle.mig_value.specs.Typed.{Typed, Tag, Slots, no_slot, slot, slots_of, out_slots, tag_pair}
 use Rattle.mig_value.specs.Parts as values

@@ -1,7 +1,7 @@
 -- Counted nodes of values and of their trees.
 use Rattle.std.specs.Prelude.{◌≡◌, ℕ, List}
 use Rattle.mig_model.specs.Family.{Family, body, IsFormed}
-use Rattle.mig_template.specs.Kept as template
+use Rattle.mig_model.specs.TemplateKept as template
 use Rattle.mig_value.specs.Typed.{Typed, out}
 use Rattle.mig_value.specs.Kept.{ValueKept}
 use Rattle.mig_value.specs.Fit.{FitAsRead}

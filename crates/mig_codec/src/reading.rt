@@ -5,7 +5,7 @@ ghost use Rattle.mig_model.specs.Plain as plain;
 ghost use Rattle.mig_model.specs.Plain.{trees_of, pairs_of};
 ghost use Rattle.mig_model.specs.Place.{Place};
 ghost use Rattle.mig_model.specs.Template as model;
-ghost use Rattle.mig_template.specs.Parts.{record_of};
+ghost use Rattle.mig_model.specs.Record.{record_of};
 ghost use Rattle.mig_template.specs.View.{template_of};
 ghost use Rattle.mig_tree.specs.View.{plain_of, entry_of};
 ghost use Rattle.mig_codec.specs.Parted.{HasTag, IsRow, Places, PlacesUnknown, ReadsRow, TagAt};

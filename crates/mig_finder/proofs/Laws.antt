@@ -8,8 +8,8 @@ use Rattle.mig_model.specs.Names.{has_twice, same_name, is_among}
 use Rattle.mig_model.specs.Inhabits.{has_musts}
 use Rattle.mig_model.specs.Template as template
 use Rattle.mig_model.specs.Template.{Template, Fields, no_field, field, field_list, Choice, no_choice, choice, Cases, no_case, case, case_list}
-use Rattle.mig_template.specs.Kept.{TemplateKept, FieldsKept, ChoiceKept, CasesKept}
-use Rattle.mig_template.specs.Parts.{has_twice_in, cases_in, is_twice_named}
+use Rattle.mig_model.specs.TemplateKept.{TemplateKept, FieldsKept, ChoiceKept, CasesKept}
+use Rattle.mig_model.specs.Record.{has_twice_in, cases_in, is_twice_named}
 use Rattle.mig_value.specs.Typed.{Typed, list, left, right, rec, Items, no_item, item, items, Slots, Tag, out_slots}
 use Rattle.mig_value.specs.Fit.{ValueFits, FieldsFit, CasesFit, EachItem, EachSlot, TagFits, has_case_musts, has_cased_musts, ChoiceFits}
 use Rattle.mig_path.specs.declared.side.Side.TheVariants.{Left, Right}

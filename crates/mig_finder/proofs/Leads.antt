@@ -16,8 +16,8 @@ use Rattle.mig_model.specs.Kinds.{kind_of}
 use Rattle.mig_model.specs.Template as template
 use Rattle.mig_model.specs.Template.{Template, Fields, no_field, field, field_list, Choice, no_choice, choice, Cases, no_case, case, case_list, has_kind}
 use Rattle.mig_laws.specs.Sides.{SumsApart, FieldsApart, ChoiceApart, CasesApart}
-use Rattle.mig_template.specs.Kept.{TemplateKept, FieldsKept, ChoiceKept, CasesKept}
-use Rattle.mig_template.specs.Parts.{has_twice_in, cases_in, is_twice_named}
+use Rattle.mig_model.specs.TemplateKept.{TemplateKept, FieldsKept, ChoiceKept, CasesKept}
+use Rattle.mig_model.specs.Record.{has_twice_in, cases_in, is_twice_named}
 use Rattle.mig_template.proofs.Sorted.{once_if_ascends}
 use Rattle.mig_value.specs.Typed.{Typed, list, left, right, rec, Items, no_item, item, items, Slots, no_slot, slot, slots, Tag, out, out_slots}
 use Rattle.mig_value.specs.Kept as value

@@ -10,7 +10,7 @@ use Rattle.mig_model.specs.declared.presence.Presence.TheVariants.{Must, May}
 use Rattle.mig_model.specs.Names.{has_twice, under, same_name, is_among}
 use Rattle.mig_model.specs.Inhabits.{has_musts}
 use Rattle.mig_model.specs.Template.{Template, Fields, no_field, field, field_list, Cases, no_case, case, case_list, is_must}
-use Rattle.mig_template.specs.Parts.{has_twice_in}
+use Rattle.mig_model.specs.Record.{has_twice_in}
 use Rattle.mig_value.specs.Typed.{Typed, rec, Slots, no_slot, slot, Tag, out, out_slots}
 use Rattle.mig_value.specs.Fit.{ValueFits, FieldsFit, CasesFit, EachSlot}
 use Rattle.mig_path.specs.Fields.{value_under, value_in}

@@ -5,7 +5,7 @@ use Rattle.mig_model.specs.declared.form.Form.{Form}
 use Rattle.mig_model.specs.Plain.{Plain}
 use Rattle.mig_model.specs.Template.{Template}
 use Rattle.mig_laws.specs.Sides.{SumsApart}
-use Rattle.mig_template.specs.Kept.{TemplateKept}
+use Rattle.mig_model.specs.TemplateKept.{TemplateKept}
 use Rattle.mig_value.specs.Typed.{Typed, out}
 use Rattle.mig_value.specs.Kept as value
 use Rattle.mig_value.specs.Fit.{ValueFits}

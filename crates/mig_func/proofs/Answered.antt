@@ -5,21 +5,21 @@ use Rattle.std.specs.List.{AllByRecursion}
 use Rattle.mig_model.specs.declared.form.Form.{Form}
 use Rattle.mig_model.specs.Template.{Template}
 use Rattle.mig_model.specs.Plain.{on_entries}
-use Rattle.mig_template.specs.Parts as template
-use Rattle.mig_template.specs.Kept as template_kept
+use Rattle.mig_model.specs.Record as template
+use Rattle.mig_model.specs.TemplateKept as template_kept
 use Rattle.mig_value.specs.Typed.{Typed, out}
 use Rattle.mig_value.specs.Parts as value
 use Rattle.mig_value.specs.Kept as value_kept
 use Rattle.mig_value.specs.Fit.{ValueFits, Shape, Fit, IsOfForm}
-use Rattle.mig_action.specs.FieldFn.{FieldFn}
-use Rattle.mig_action.specs.NewRecord.{new_record}
-use Rattle.mig_action.specs.Act.{act}
+use Rattle.mig_field.specs.FieldFn.{FieldFn}
+use Rattle.mig_field.specs.NewRecord.{new_record}
+use Rattle.mig_field.specs.Act.{act}
 use Rattle.mig_action.specs.Moves.{apply}
 use Rattle.mig_action.specs.Nodes.{nodes_at}
 use Rattle.mig_value.specs.Nodes.{Test, nodes}
 use Rattle.mig_action.specs.Laws.{Applies}
 use Rattle.mig_action.proofs.Laws.{tree_acts, shape_stays, fit_stays, nodes_stay, no_more_nodes}
-use Rattle.mig_action.proofs.Edits.{some-there}
+use Rattle.mig_model.proofs.Options.{some-there}
 
 module _ (f : FieldFn) (p : template.RecordParts) (u : Typed) (v w : value.RecordParts) (is : u ≡ value.record_of v) (became : w ≡ apply f p v)
     (record_kept : template_kept.RecordKept p) (value_kept : value_kept.RecordValueKept v) (shape : Shape (template.record_of p) u) where

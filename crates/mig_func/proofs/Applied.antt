@@ -2,8 +2,8 @@
 use Rattle.std.proofs.Common.{◌≡◌, ℕ, List, [], true, false, true≢false, Option, Some, None, refl, sym, ap, subst, ◌∙◌, arith}
 use Rattle.std.specs.Prelude.{not, ◌||◌, ◌&&◌, is_some, option_map, option_and_then, unwrap_or, if◌then◌else◌}
 use Rattle.mig_model.specs.Template.{Field}
-use Rattle.mig_template.specs.Parts as template
-use Rattle.mig_template.specs.Parts.{choice_of, found_case}
+use Rattle.mig_model.specs.Record as template
+use Rattle.mig_model.specs.Record.{choice_of, found_case}
 use Rattle.mig_value.specs.Typed.{Tag}
 use Rattle.mig_value.specs.Parts as value
 use Rattle.mig_value.specs.Parts.{IsRecordValue}
@@ -12,13 +12,13 @@ use Rattle.mig_model.specs.Fields.{is_in_choice, if_so}
 use Rattle.mig_model.specs.Names.{has_twice, under, has, moved, same_name}
 use Rattle.mig_func.specs.New.{is_about_cases}
 use Rattle.mig_func.specs.Settled.{retagged_value, cased_value}
-use Rattle.mig_action.specs.FieldFn.{Scope, common, in_case, FieldOp, map_leaf, unnest, unify, retag, add_case}
-use Rattle.mig_action.specs.NewRecord.{Scoped, is_tag, scoped, with_fields, with_cases, new_fields, fields_of_case, can_be_settled, retagged, new_by}
-use Rattle.mig_template.specs.Kept as template_kept
+use Rattle.mig_field.specs.FieldFn.{Scope, common, in_case, FieldOp, map_leaf, unnest, unify, retag, add_case}
+use Rattle.mig_field.specs.NewRecord.{Scoped, is_tag, scoped, with_fields, with_cases, new_fields, fields_of_case, can_be_settled, retagged, new_by}
+use Rattle.mig_model.specs.TemplateKept as template_kept
 use Rattle.mig_value.specs.Kept as value_kept
 use Rattle.mig_value.specs.Fit.{Shape}
 use Rattle.mig_action.proofs.Laws.{parts_stay}
-use Rattle.mig_action.proofs.Edits.{some-there}
+use Rattle.mig_model.proofs.Options.{some-there}
 use Rattle.mig_action.specs.Moves.{Moving, is_of_case, settle_case, retag_value, apply_by}
 use Rattle.mig_action.proofs.Counts.{new_names}
 use Rattle.mig_action.specs.Laws.{Applies}

@@ -5,14 +5,15 @@ use Rattle.std.specs.Map.{keys_of}
 use Rattle.mig_model.specs.Names.{Ascends, has_twice, under, has, without, put, put_all, bring, moved}
 use Rattle.mig_model.specs.Fields.{if_so}
 use Rattle.mig_model.specs.Template.{Field}
-use Rattle.mig_template.specs.Kept.{RecordKept}
-use Rattle.mig_template.specs.Parts.{Case, Cases, RecordParts, IsRecordOf, IsOrderOf, has_twice_in, is_twice_named, found_case}
+use Rattle.mig_model.specs.TemplateKept.{RecordKept}
+use Rattle.mig_model.specs.Record.{Case, Cases, RecordParts, IsRecordOf, IsOrderOf, has_twice_in, is_twice_named, found_case}
 use Rattle.mig_model.proofs.OneOrder.{one_order}
-use Rattle.mig_action.specs.FieldFn.{common, retag, add_case}
-use Rattle.mig_action.specs.NewRecord.{new_by, with_cases, can_be_settled, retagged, with_case, FieldType}
+use Rattle.mig_field.specs.FieldFn.{common, retag, add_case}
+use Rattle.mig_field.specs.NewRecord.{new_by, with_cases, can_be_settled, retagged, with_case, FieldType}
 use Rattle.mig_func.specs.New.{with_more, are_clear}
 use Rattle.mig_func.proofs.Tests.{any_never}
-use Rattle.mig_action.proofs.Edits.{none-there, under-without, ascends-without}
+use Rattle.mig_model.proofs.Edits.{under-without, ascends-without}
+use Rattle.mig_model.proofs.Options.{none-there}
 use Rattle.mig_action.proofs.Distinct.{case_once, case_ascends_in}
 use Rattle.mig_func.proofs.Offers.{without-none, order_all}
 use Rattle.mig_func.proofs.Rebuilt.{cases_are, order_itself, more_ordered, more_made, more_twice, any_without, all_without}

@@ -3,7 +3,6 @@ pub mod Nesting
 pub mod Offers
 pub mod Outcomes
 pub mod Rebuilt
-pub mod Same
 pub mod Scopes
 pub mod Targets
 pub mod Tests

@@ -12,15 +12,14 @@ use Rattle.mig_model.specs.Fields.{if_so}
 use Rattle.mig_model.specs.Template.{rec, Field, fields_of, Choice, no_choice}
 use Rattle.std.proofs.lemmas.List.Sorted.{IsPermutation-refl}
 use Rattle.mig_model.proofs.OneOrder.{one_order}
-use Rattle.mig_template.specs.Parts.{Cases, RecordParts, IsRecordOf, IsChoiceOf, choice_of, record_of}
+use Rattle.mig_model.specs.Record.{Cases, RecordParts, IsRecordOf, IsChoiceOf, choice_of, record_of}
 use Rattle.mig_template.proofs.Views.{field_list_of}
-use Rattle.mig_action.specs.FieldFn.{nest, unnest}
-use Rattle.mig_action.specs.NewRecord.{FieldType, Scoped, can_nest, is_some_name, unnested, unnest_slot, inner_fields}
+use Rattle.mig_field.specs.FieldFn.{nest, unnest}
+use Rattle.mig_field.specs.NewRecord.{FieldType, Scoped, can_nest, is_some_name, unnested, unnest_slot, inner_fields}
 use Rattle.mig_func.specs.New.{NoneTaken, Offers, has_clash}
 use Rattle.mig_func.proofs.Tests.{any_either, any_alike, not_all}
-use Rattle.mig_action.proofs.Edits.{under-without, under-others, ascends-without, ascends-others}
+use Rattle.mig_model.proofs.Edits.{under-without, under-others, ascends-without, ascends-others, all_names}
 use Rattle.mig_func.proofs.Offers.{new_one, new_same, none_taken, taken_not, clash_is, order_all, offered, still_has}
-use Rattle.mig_action.proofs.Orders.{all_names}
 use Rattle.mig_model.proofs.Bools.{split_or}
 use Rattle.mig_model.proofs.SameNames.{same_name_is}
 

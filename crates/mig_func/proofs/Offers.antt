@@ -12,15 +12,14 @@ use Rattle.mig_model.specs.declared.kind.Kind.{Kind}
 use Rattle.mig_model.specs.Names.{Ascends, has_twice, same_name, is_among, under, has, without, put, put_all, bring, moved}
 use Rattle.mig_model.specs.Fields.{if_so}
 use Rattle.mig_model.specs.Template.{Field, is_open}
-use Rattle.mig_template.specs.Parts.{IsOrderOf}
+use Rattle.mig_model.specs.Record.{IsOrderOf}
 use Rattle.mig_template.proofs.Names.{twice_in_both}
 use Rattle.mig_template.proofs.Sorted.{once_if_ascends}
-use Rattle.mig_action.specs.FieldFn.{Fill, fill_template, rename, drop, add, learn, forget}
-use Rattle.mig_action.specs.NewRecord.{FieldType, is_clear, can_be_learned, learned, at_field}
+use Rattle.mig_field.specs.FieldFn.{Fill, fill_template, rename, drop, add, learn, forget}
+use Rattle.mig_field.specs.NewRecord.{FieldType, is_clear, can_be_learned, learned, at_field}
 use Rattle.mig_func.specs.New.{has_clash, IsNew, NoneTaken, Offers}
 use Rattle.mig_func.proofs.Tests.{neither, any_either, any_alike, any_swap}
-use Rattle.mig_action.proofs.Edits.{under-without, under-filter, ascends-filter, under-put, put_without, ascends-put, ascends-put_all, ascends-without, same_under}
-use Rattle.mig_action.proofs.Orders.{among_is, none_of, none_among, put_all-permutes}
+use Rattle.mig_model.proofs.Edits.{under-without, under-filter, ascends-filter, under-put, put_without, ascends-put, ascends-put_all, ascends-without, same_under, among_is, none_of, none_among, put_all-permutes}
 use Rattle.std.proofs.Math.Bool.{or-false}
 use Rattle.std.proofs.lemmas.Bool.{not-true}
 use Rattle.mig_model.proofs.Bools.{split_and}

@@ -10,18 +10,17 @@ use Rattle.mig_model.specs.Kinds.{kind_of}
 use Rattle.mig_model.specs.Template.{Template, leaf, sum, Field, same_kind}
 use Rattle.mig_model.specs.Leaf.{LeafFn, leaf_out}
 use Rattle.mig_value.specs.Typed.{Typed, atom, left, right}
-use Rattle.mig_laws.proofs.Tests.{same_kind_is}
+use Rattle.mig_model.proofs.SameNames.{same_kind_is, same_kind_itself}
 use Rattle.mig_slots.specs.Fitting.{FitsAtom, OneFitsSide}
 use Rattle.mig_model.specs.Names.{under}
-use Rattle.mig_action.specs.FieldFn.{FieldOp, map_leaf, unnest, unify}
-use Rattle.mig_action.specs.NewRecord.{Scoped, FieldType, inner_fields, unnest_slot, leaf_after, leaf_of_both, common_kind, with_template, new_fields}
-use Rattle.mig_action.specs.Act.{inner_names, left_kind}
+use Rattle.mig_field.specs.FieldFn.{FieldOp, map_leaf, unnest, unify}
+use Rattle.mig_field.specs.NewRecord.{Scoped, FieldType, inner_fields, unnest_slot, leaf_after, leaf_of_both, common_kind, with_template, new_fields}
+use Rattle.mig_field.specs.Act.{inner_names, left_kind}
 use Rattle.mig_action.specs.Moves.{Moving}
 use Rattle.mig_action.proofs.Stands.{Stands}
 use Rattle.mig_action.proofs.Values.{mapped, then_some, both_kinds}
 use Rattle.mig_action.proofs.Ops.{at-field}
 use Rattle.mig_func.specs.Ready.{IsReady, fields_within}
-use Rattle.mig_model.proofs.SameNames.{same_kind_itself}
 
 abbrev pub Whatever : Typed → Type 0
 Whatever v = Unit {0}

@@ -7,15 +7,15 @@ use Rattle.std.proofs.lemmas.List.Folds.{list_any-append}
 use Rattle.std.proofs.lemmas.List.Sorted.{IsPermutation-refl}
 use Rattle.mig_model.specs.Names.{Ascends, has_twice, has, without, put}
 use Rattle.mig_model.specs.Template.{Field}
-use Rattle.mig_template.specs.Kept.{RecordKept}
-use Rattle.mig_template.specs.Parts.{Case, Cases, RecordParts, CasesAscend, IsRecord, IsRecordOf, IsOrderOf, IsChoiceOf, FieldsOrdered, has_twice_in, is_twice_in, is_twice_named}
+use Rattle.mig_model.specs.TemplateKept.{RecordKept}
+use Rattle.mig_model.specs.Record.{Case, Cases, RecordParts, CasesAscend, IsRecord, IsRecordOf, IsOrderOf, IsChoiceOf, FieldsOrdered, has_twice_in, is_twice_in, is_twice_named}
 use Rattle.mig_template.proofs.CaseLists.{ordered_more}
 use Rattle.mig_template.proofs.Names.{keys_moved}
 use Rattle.mig_template.proofs.OneOrder.{one_record}
 use Rattle.mig_template.proofs.Sorted.{once_if_ascends}
-use Rattle.mig_action.specs.FieldFn.{common, in_case}
+use Rattle.mig_field.specs.FieldFn.{common, in_case}
 use Rattle.mig_func.specs.New.{HasFields, has_clash, taken_by_rest, with_more}
-use Rattle.mig_action.proofs.Edits.{ascends-without}
+use Rattle.mig_model.proofs.Edits.{ascends-without}
 use Rattle.mig_func.proofs.Offers.{order_all, gone, put-without}
 use Rattle.mig_func.proofs.Scopes.{case_clash}
 use Rattle.std.proofs.Math.Bool.{or-false}

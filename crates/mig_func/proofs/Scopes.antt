@@ -5,13 +5,13 @@ use Rattle.std.specs.Map.{keys_of}
 use Rattle.mig_model.specs.Names.{has_twice, same_name, is_among, under, has}
 use Rattle.mig_model.specs.Fields.{is_case_field, is_field}
 use Rattle.mig_model.specs.Template.{Field, fields_of, cases_of}
-use Rattle.mig_template.specs.Parts as parts
-use Rattle.mig_template.specs.Parts.{RecordParts, IsRecord, Cases, choice_of, has_twice_in, is_twice_in, is_twice_named}
+use Rattle.mig_model.specs.Record as parts
+use Rattle.mig_model.specs.Record.{RecordParts, IsRecord, Cases, choice_of, has_twice_in, is_twice_in, is_twice_named}
 use Rattle.mig_template.proofs.Names.{twice_in_both, twice_in_more, first_once}
 use Rattle.mig_template.proofs.Views.{field_list_of}
 use Rattle.mig_func.specs.New.{has_clash, taken_by_choice, taken_by_rest}
 use Rattle.mig_func.proofs.Tests.{any_either, any_alike, any_never, any_swap}
-use Rattle.mig_action.proofs.Orders.{among_is}
+use Rattle.mig_model.proofs.Edits.{among_is}
 use Rattle.mig_action.proofs.Distinct.{case_once}
 use Rattle.std.proofs.Math.Bool.{or-false}
 use Rattle.mig_model.proofs.Bools.{split_or}

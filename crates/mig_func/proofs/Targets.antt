@@ -2,11 +2,11 @@
 use Rattle.std.proofs.Common.{◌≡◌, ℕ, List, true, false, true≢false, Bool, Option, Some, None, Result, refl, sym, ap, ◌∙◌}
 use Rattle.std.specs.Prelude.{option_map, option_and_then, IfOk, IfErr}
 use Rattle.mig_model.specs.Template.{Field}
-use Rattle.mig_template.specs.Kept.{RecordKept}
-use Rattle.mig_template.specs.Parts.{Cases, RecordParts, found_case, is_twice_named}
+use Rattle.mig_model.specs.TemplateKept.{RecordKept}
+use Rattle.mig_model.specs.Record.{Cases, RecordParts, found_case, is_twice_named}
 use Rattle.mig_model.proofs.OneOrder.{one_order}
-use Rattle.mig_action.specs.FieldFn.{Scope, common, in_case, FieldOp, retag, add_case}
-use Rattle.mig_action.specs.NewRecord.{new_by, new_fields, scoped, with_fields}
+use Rattle.mig_field.specs.FieldFn.{Scope, common, in_case, FieldOp, retag, add_case}
+use Rattle.mig_field.specs.NewRecord.{new_by, new_fields, scoped, with_fields}
 use Rattle.mig_func.specs.New.{IsMisfit, has_clash, Makes, NoneTaken, Offers, Refuses, HasFields, fields_after, taken_by_choice, taken_by_rest, is_about_cases}
 use Rattle.mig_func.specs.declared.fault.FuncFault.{FuncFault}
 use Rattle.mig_func.proofs.Outcomes.{ok_map2, fault_map, fault_is}

@@ -5,13 +5,13 @@ use Rattle.std.specs.Map.{keys_of}
 use Rattle.mig_model.specs.declared.memory.Memory.{Memory}
 use Rattle.mig_model.specs.declared.rest.Rest.{Rest}
 use Rattle.mig_model.specs.Template.{Field, rec, fields_of}
-use Rattle.mig_template.specs.Parts.{Cases, choice_of}
+use Rattle.mig_model.specs.Record.{Cases, choice_of}
 use Rattle.mig_template.proofs.Views.{field_list_of}
 use Rattle.mig_slots.specs.declared.moving.Moving.{Moving}
 use Rattle.mig_slots.specs.View.{moving_of}
 use Rattle.mig_model.specs.Names.{under, without, put_all, others}
-use Rattle.mig_action.specs.FieldFn.{unnest}
-use Rattle.mig_action.specs.NewRecord.{inner_fields}
+use Rattle.mig_field.specs.FieldFn.{unnest}
+use Rattle.mig_field.specs.NewRecord.{inner_fields}
 use Rattle.mig_action.specs.Moves as model
 use Rattle.mig_action.specs.Moves.{move, inner_slots}
 use Rattle.mig_func.specs.Ready.{fields_within}

@@ -6,9 +6,9 @@ use Rattle.mig_model.specs.declared.rest.Rest.{Rest}
 use Rattle.mig_model.specs.Template.{Field}
 use Rattle.mig_model.specs.Names.{has_twice, has}
 use Rattle.mig_model.specs.Fields.{is_in_choice}
-use Rattle.mig_template.specs.Parts.{Case, Cases, RecordParts, IsOrderOf, choice_of}
-use Rattle.mig_action.specs.FieldFn.{Scope, FieldOp, retag, add_case}
-use Rattle.mig_action.specs.NewRecord.{new_fields, with_fields, is_tag, is_clear}
+use Rattle.mig_model.specs.Record.{Case, Cases, RecordParts, IsOrderOf, choice_of}
+use Rattle.mig_field.specs.FieldFn.{Scope, FieldOp, retag, add_case}
+use Rattle.mig_field.specs.NewRecord.{new_fields, with_fields, is_tag, is_clear}
 use Rattle.mig_func.specs.declared.fault.FuncFault.{FuncFault}
 use Rattle.mig_func.specs.declared.fault.FuncFault.TheVariants.{Misfit, Memory}
 

@@ -4,9 +4,9 @@ use Rattle.mig_model.specs.Template.{Field}
 use Rattle.mig_slots.specs.Fitting.{FitsAtom, OneFitsSide}
 use Rattle.mig_value.specs.Parts.{RecordParts}
 use Rattle.mig_model.specs.Names.{under}
-use Rattle.mig_action.specs.FieldFn.{FieldOp, map_leaf, unify, unnest}
-use Rattle.mig_action.specs.NewRecord.{FieldType, inner_fields}
-use Rattle.mig_action.specs.Act.{left_kind}
+use Rattle.mig_field.specs.FieldFn.{FieldOp, map_leaf, unify, unnest}
+use Rattle.mig_field.specs.NewRecord.{FieldType, inner_fields}
+use Rattle.mig_field.specs.Act.{left_kind}
 use Rattle.mig_action.specs.Moves.{Moving, move}
 
 -- the fields of the record under a field

@@ -3,8 +3,8 @@ use Rattle.std.specs.Prelude.{Option, Some, None}
 use Rattle.mig_model.specs.declared.kind.Kind.{Kind}
 use Rattle.mig_model.specs.Leaf.{LeafFn, leaf_out}
 use Rattle.mig_model.specs.Template.{list}
-use Rattle.mig_action.specs.FieldFn.{FieldOp, default, maybe, map_leaf, wrap, unify}
-use Rattle.mig_action.specs.NewRecord.{FieldType, filled, lessened, leaf_after, leaf_of_both, common_kind, with_template}
+use Rattle.mig_field.specs.FieldFn.{FieldOp, default, maybe, map_leaf, wrap, unify}
+use Rattle.mig_field.specs.NewRecord.{FieldType, filled, lessened, leaf_after, leaf_of_both, common_kind, with_template}
 
 -- the kind that both functions give
 abbrev pub common_out : LeafFn → LeafFn → Kind → Kind → Option Kind

@@ -7,7 +7,7 @@ use Rattle.mig_func.specs.declared.function.Scope.TheVariants as scopes
 use Rattle.mig_func.specs.declared.function.FieldOp.{FieldOp}
 use Rattle.mig_func.specs.declared.function.FieldOp.TheVariants as ops
 use Rattle.mig_func.specs.declared.function.FieldFn.{FieldFn}
-use Rattle.mig_action.specs.FieldFn as model
+use Rattle.mig_field.specs.FieldFn as model
 use Rattle.mig_leaf.specs.View.{const_of, leaf_fn_of}
 use Rattle.mig_template.specs.View.{template_of, field_of}
 

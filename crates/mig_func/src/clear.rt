@@ -1,6 +1,6 @@
 //! Whether each sum in a template can be told by the kinds of its sides.
 ghost use Rattle.std.specs.Prelude.{◌≡◌};
-ghost use Rattle.mig_action.specs.NewRecord.{is_unclear, is_clear};
+ghost use Rattle.mig_field.specs.NewRecord.{is_unclear, is_clear};
 ghost use Rattle.mig_model.specs.Template.{sum};
 ghost use Rattle.mig_template.specs.View.{template_of};
 

@@ -1,7 +1,7 @@
 //! What fills a new field.
 ghost use Rattle.std.specs.Prelude.{◌≡◌, IfOk};
-ghost use Rattle.mig_action.specs.FieldFn.{fill_template};
-ghost use Rattle.mig_action.specs.SameTemplate.{same_template};
+ghost use Rattle.mig_field.specs.FieldFn.{fill_template};
+ghost use Rattle.mig_field.specs.SameTemplate.{same_template};
 ghost use Rattle.mig_model.specs.Template.{leaf, list};
 ghost use Rattle.mig_template.specs.View.{template_of};
 ghost use Rattle.mig_func.specs.View.{fill_of};

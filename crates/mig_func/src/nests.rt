@@ -2,12 +2,12 @@
 ghost use Rattle.std.specs.Prelude.{◌≡◌, ◌∷◌, ◌++◌, [], Some, false, true, map, IfOk, IfErr};
 ghost use Rattle.std.specs.List.{list_all};
 ghost use Rattle.mig_model.specs.Names.{has, those, others, under, Ascends};
-ghost use Rattle.mig_action.specs.FieldFn.{nest, unnest};
-ghost use Rattle.mig_action.specs.NewRecord.{unnested, is_some_name};
+ghost use Rattle.mig_field.specs.FieldFn.{nest, unnest};
+ghost use Rattle.mig_field.specs.NewRecord.{unnested, is_some_name};
 ghost use Rattle.mig_model.specs.declared.rest.Rest as rests;
 ghost use Rattle.mig_model.specs.Template.{rec, fields_of, no_choice};
 ghost use Rattle.mig_template.specs.View.{template_of, field_of};
-ghost use Rattle.mig_template.specs.Parts.{record_of};
+ghost use Rattle.mig_model.specs.Record.{record_of};
 ghost use Rattle.mig_func.specs.New.{IsMisfit, Offers, Refuses};
 
 use crate::copies::copy_field;

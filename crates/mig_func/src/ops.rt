@@ -1,7 +1,7 @@
 //! The new fields of the other functions.
 ghost use Rattle.std.specs.Prelude.{◌≡◌, None, IfOk, IfErr, map};
-ghost use Rattle.mig_action.specs.FieldFn.{rename, drop, add, learn, forget};
-ghost use Rattle.mig_action.specs.NewRecord.{at_field};
+ghost use Rattle.mig_field.specs.FieldFn.{rename, drop, add, learn, forget};
+ghost use Rattle.mig_field.specs.NewRecord.{at_field};
 ghost use Rattle.mig_model.specs.declared.rest.Rest as rests;
 ghost use Rattle.mig_model.specs.Template.{is_open};
 ghost use Rattle.mig_template.specs.View.{field_of};

@@ -1,8 +1,8 @@
 //! Records with other fields, or with other cases.
 ghost use Rattle.std.specs.Prelude.{◌≡◌, ◌∷◌, ◌++◌, [], Some, true, false, map, option_map, IfOk, IfErr};
 ghost use Rattle.mig_model.specs.Names.{without, same_name, Ascends};
-ghost use Rattle.mig_action.specs.FieldFn.{common, in_case};
-ghost use Rattle.mig_template.specs.Parts.{IsRecordOf, is_twice_named, has_no_case};
+ghost use Rattle.mig_field.specs.FieldFn.{common, in_case};
+ghost use Rattle.mig_model.specs.Record.{IsRecordOf, is_twice_named, has_no_case};
 ghost use Rattle.mig_template.specs.View.{field_of, case_of, given_case, given_choice};
 ghost use Rattle.mig_func.specs.New.{IsMisfit, HasFields, has_clash, taken_by_choice, taken_by_rest, with_more};
 

@@ -1,8 +1,8 @@
 //! Records whose tag has another literal, or one more.
 ghost use Rattle.std.specs.Prelude.{◌≡◌, Some, None, true, false, map, IfOk, IfErr};
-ghost use Rattle.mig_action.specs.FieldFn.{common, retag, add_case};
-ghost use Rattle.mig_action.specs.NewRecord.{new_by, is_easy, are_easy, can_be_settled};
-ghost use Rattle.mig_template.specs.Parts.{found_case};
+ghost use Rattle.mig_field.specs.FieldFn.{common, retag, add_case};
+ghost use Rattle.mig_field.specs.NewRecord.{new_by, is_easy, are_easy, can_be_settled};
+ghost use Rattle.mig_model.specs.Record.{found_case};
 ghost use Rattle.mig_template.specs.View.{field_of};
 ghost use Rattle.mig_func.specs.New.{IsMisfit, are_clear};
 

@@ -1,8 +1,8 @@
 //! What becomes of one field's presence and template.
 ghost use Rattle.std.specs.Prelude.{◌≡◌, ◌&&◌, Some, None, not, option_map, IfOk, IfErr};
-ghost use Rattle.mig_action.specs.FieldFn.{fill_template};
-ghost use Rattle.mig_action.specs.NewRecord.{leaf_after, leaf_of_both, learned, can_be_learned};
-ghost use Rattle.mig_action.specs.SameTemplate.{same_template};
+ghost use Rattle.mig_field.specs.FieldFn.{fill_template};
+ghost use Rattle.mig_field.specs.NewRecord.{leaf_after, leaf_of_both, learned, can_be_learned};
+ghost use Rattle.mig_field.specs.SameTemplate.{same_template};
 ghost use Rattle.mig_leaf.specs.View.{leaf_fn_of};
 ghost use Rattle.mig_model.specs.Template.{list, sum, is_must};
 ghost use Rattle.mig_template.specs.View.{template_of};

@@ -1,8 +1,8 @@
 //! The new record of a field function.
 ghost use Rattle.std.specs.Prelude.{◌≡◌, Some, None, false, map, IfOk, IfErr};
-ghost use Rattle.mig_action.specs.FieldFn.{common, in_case};
-ghost use Rattle.mig_action.specs.NewRecord.{new_by, new_record};
-ghost use Rattle.mig_template.specs.Parts.{found_case};
+ghost use Rattle.mig_field.specs.FieldFn.{common, in_case};
+ghost use Rattle.mig_field.specs.NewRecord.{new_by, new_record};
+ghost use Rattle.mig_model.specs.Record.{found_case};
 ghost use Rattle.mig_template.specs.View.{field_of};
 ghost use Rattle.mig_func.specs.New.{IsMisfit, Offers, Refuses, is_about_cases};
 ghost use Rattle.mig_func.specs.View.{field_op_of, field_fn_of};

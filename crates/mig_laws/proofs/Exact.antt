@@ -13,11 +13,10 @@ use Rattle.mig_model.specs.Template.{Template, leaf, any, list, point, rec, sum,
 use Rattle.mig_model.specs.Inhabits.{Entries, EachItem, IsListOf, EachEntry, IsMapOf, has_tag, has_text, is_in_form, has_musts, has_case, is_complete, Unknown, Fits, FieldsFit, ChoiceFits, CasesFit, InhabitsWithin}
 use Rattle.mig_model.specs.Place.{Place, PlaceStep, Wrong, named, index, sooner, place_under, or_else, wrong_item, within_list, within_map, at_name, wrong_entry, missing, missing_in_case, is_literal, is_tagged, wrong_map, unless, wrong, wrong_fields, wrong_choice, wrong_cases, place_within}
 use Rattle.mig_laws.specs.Sides.{SumsApart, FieldsApart, ChoiceApart, CasesApart}
-use Rattle.mig_laws.proofs.Tests.{same_kind_is}
+use Rattle.mig_model.proofs.SameNames.{same_kind_is, same_kind_itself}
 use Rattle.mig_laws.proofs.Sides.{kind_told}
 use Rattle.mig_laws.proofs.Inhabitants.{RecordFits}
 use Rattle.mig_model.proofs.Bools.{split_and, both_true}
-use Rattle.mig_model.proofs.SameNames.{same_kind_itself}
 
 -- each test of `wrong` and what it says
 if_none : (b : Bool) (A B : Type 0) (x y : Option Place) → (x ≡ None) ↔ A → (y ≡ None) ↔ B → ((if b then x else y) ≡ None) ↔ MatchBool b A B

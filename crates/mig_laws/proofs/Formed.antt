@@ -11,10 +11,9 @@ use Rattle.mig_model.specs.Family.{Family, find_type, body, any_inside, any_in_f
 use Rattle.mig_laws.specs.Sides.{is_guarded, is_side, AreSides, SumsApart, FieldsApart, ChoiceApart, CasesApart}
 use Rattle.std.proofs.lemmas.Bool.{not-false, false_from_ne_true}
 use Rattle.std.proofs.lemmas.List.Folds.{list_any_at}
-use Rattle.mig_laws.proofs.Tests.{at_number}
+use Rattle.mig_model.proofs.SameNames.{at_number, same_kind_itself}
 use Rattle.mig_laws.proofs.Parts.{shared_kinds}
 use Rattle.mig_model.proofs.Bools.{split_and, split_or, both_true}
-use Rattle.mig_model.proofs.SameNames.{same_kind_itself}
 
 -- a formed family has none of the eleven faults
 none_of : (ws : List Flaw) (f : Family) → first_of ws f ≡ None → AllByRecursion (λ w. has_flaw w f ≡ false) ws

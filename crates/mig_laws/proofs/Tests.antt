@@ -19,11 +19,3 @@ if_agree false e f = f
 pub match_map : (b : Bool) (A B C D : Type 0) → (A → C) → (B → D) → MatchBool b A B → MatchBool b C D
 match_map true A B C D f g m = f m
 match_map false A B C D f g m = g m
-
--- a kind stands in the list of all kinds at its number
-pub at_number : (k : Kind) → (kind_number k < length kinds) × (get_or kinds (kind_number k) K.Whole ≡ k)
-at_number K.Byte = (omega arith, refl)
-at_number _ = (omega arith, refl)
-
-pub same_kind_is : (a b : Kind) → same_kind a b ≡ true → a ≡ b
-same_kind_is a b e = sym (at_number a).1 ∙ ap (λ n. get_or kinds n K.Whole) (eqb-true (kind_number a) (kind_number b) e) ∙ (at_number b).1

@@ -9,7 +9,7 @@ use Rattle.mig_model.specs.declared.form.Form.{Form}
 use Rattle.mig_model.specs.declared.rest.Rest.TheVariants.{Open}
 use Rattle.mig_model.specs.Template.{fields_of, field, leaf, Choice, no_choice, rec}
 use Rattle.mig_model.specs.Family.{IsFormed, first_flaw}
-use Rattle.mig_template.specs.Parts.{RecordParts, Cases, IsRecordOf, IsChoiceOf, choice_of, record_of}
+use Rattle.mig_model.specs.Record.{RecordParts, Cases, IsRecordOf, IsChoiceOf, choice_of, record_of}
 use Rattle.mig_template.proofs.Sorted.{once_if_ascends}
 use Rattle.mig_model.proofs.OneOrder.{one_order}
 use Rattle.mig_schema.specs.declared.fault.SchemaFault.{SchemaFault}

@@ -1,5 +1,6 @@
 pub mod Ascending
 pub mod Bools
+pub mod Edits
 pub mod Entries
 pub mod Loops
 pub mod OneOrder

@@ -1,5 +1,5 @@
 -- Names are the same exactly where they are equal; a kind is the same as itself.
-use Rattle.std.proofs.Common.{◌≡◌, refl, sym, ap, ℕ, List, Bool, true, true≢false}
+use Rattle.std.proofs.Common.{◌≡◌, refl, sym, ap, ◌∙◌, ◌<◌, ℕ, List, length, get_or, Bool, true, true≢false, eqb-true, arith}
 use Rattle.std.specs.Ordering.{is_eq}
 use Rattle.std.specs.declared.cmp.Ordering.{Ordering}
 use Rattle.std.specs.declared.cmp.Ordering.TheVariants.{Less, Equal, Greater}
@@ -8,7 +8,8 @@ use Rattle.std.proofs.lemmas.Map.Lookups.{exact_bytes}
 use Rattle.mig_model.specs.declared.kind.Kind.{Kind}
 use Rattle.mig_model.specs.declared.kind.Kind.TheVariants as K
 use Rattle.mig_model.specs.Names.{by_bytes, same_name}
-use Rattle.mig_model.specs.Template.{same_kind}
+use Rattle.mig_model.specs.Template.{kind_number, same_kind}
+use Rattle.mig_model.specs.Family.{kinds}
 use Rattle.mig_model.proofs.Ascending.{flips}
 
 pub same_name_is : (a b : List ℕ) → same_name a b ≡ true → a ≡ b
@@ -28,3 +29,11 @@ same_name_flips a b = flips a b
 pub same_kind_itself : (k : Kind) → same_kind k k ≡ true
 same_kind_itself K.Byte = refl
 same_kind_itself _ = refl
+
+-- a kind stands in the list of all kinds at its number
+pub at_number : (k : Kind) → (kind_number k < length kinds) × (get_or kinds (kind_number k) K.Whole ≡ k)
+at_number K.Byte = (omega arith, refl)
+at_number _ = (omega arith, refl)
+
+pub same_kind_is : (a b : Kind) → same_kind a b ≡ true → a ≡ b
+same_kind_is a b e = sym (at_number a).1 ∙ ap (λ n. get_or kinds n K.Whole) (eqb-true (kind_number a) (kind_number b) e) ∙ (at_number b).1

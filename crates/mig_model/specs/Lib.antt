@@ -12,3 +12,5 @@ pub mod Family
 pub mod Place
 pub mod Version
 pub mod Leaf
+pub mod Record
+pub mod TemplateKept

@@ -14,7 +14,7 @@ use Rattle.mig_model.specs.Names.{by_bytes, Ascends, under, same_name}
 use Rattle.mig_model.specs.Inhabits.{Entries}
 use Rattle.mig_model.specs.Place.{missing}
 use Rattle.mig_model.specs.Template.{Template, Field, fields_of, is_must}
-use Rattle.mig_template.specs.Parts.{musts_in}
+use Rattle.mig_model.specs.Record.{musts_in}
 use Rattle.mig_row.specs.Row.{is_must_field, musts_among}
 use Rattle.mig_model.proofs.SameNames.{same_name_is, same_name_itself}
 use Rattle.mig_model.proofs.OneOrder.{not_itself}

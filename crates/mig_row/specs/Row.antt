@@ -10,8 +10,8 @@ use Rattle.mig_model.specs.Names.{under, same_name}
 use Rattle.mig_model.specs.Template.{Template, Field, fields_of, is_must, is_open}
 use Rattle.mig_model.specs.Inhabits.{Entries}
 use Rattle.mig_model.specs.Place.{Place, Wrong, sooner, missing, unless, wrong}
-use Rattle.mig_template.specs.Parts as parts
-use Rattle.mig_template.specs.Parts.{RecordParts, found_case}
+use Rattle.mig_model.specs.Record as parts
+use Rattle.mig_model.specs.Record.{RecordParts, found_case}
 
 -- the common fields, the tag's name where there is a choice, the fields of the tag's case, and whether other names may stand there
 pub record Row : Type 0 where

@@ -4,7 +4,7 @@ use Rattle.std.specs.Borrow.{Bor}
 use Rattle.std.specs.Ordering.{is_lt}
 use Rattle.mig_model.specs.Names.{by_bytes}
 use Rattle.mig_model.specs.Place.{Place, Wrong, named}
-use Rattle.mig_template.specs.Parts as parts
+use Rattle.mig_model.specs.Record as parts
 use Rattle.mig_model.specs.Template as model
 use Rattle.mig_template.specs.View.{template_of}
 use Rattle.mig_row.specs.Row as plain

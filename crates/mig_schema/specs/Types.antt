@@ -7,7 +7,7 @@ use Rattle.mig_model.specs.Family.{Family, find_type}
 use Rattle.mig_model.specs.Template as model
 use Rattle.mig_model.specs.Names.{same_name}
 use Rattle.mig_template.specs.declared.template.Template.{Template}
-use Rattle.mig_template.specs.Kept.{TemplateKept}
+use Rattle.mig_model.specs.TemplateKept.{TemplateKept}
 use Rattle.mig_template.specs.View.{template_of}
 
 -- a name and a plain template

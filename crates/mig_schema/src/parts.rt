@@ -7,7 +7,7 @@ ghost use Rattle.mig_model.specs.Fields.{is_field, is_in_choice};
 ghost use Rattle.mig_model.specs.Template.{fields_of, cases_of};
 ghost use Rattle.mig_model.specs.Template as plain;
 ghost use Rattle.mig_model.specs.Family as flaws;
-ghost use Rattle.mig_template.specs.Parts.{record_of};
+ghost use Rattle.mig_model.specs.Record.{record_of};
 ghost use Rattle.mig_template.specs.View.{template_of};
 ghost use Rattle.mig_schema.specs.Types.{named_all, family_of, AllKept};
 ghost use Rattle.mig_schema.specs.Check.{body_fails, record_only};

@@ -12,7 +12,7 @@ use Rattle.mig_value.specs.Typed.{Typed, Slot}
 use Rattle.mig_value.specs.View.{slot_of}
 use Rattle.mig_value.specs.declared.slots.Slot as code
 use Rattle.mig_action.specs.Moves.{Moving}
-use Rattle.mig_action.proofs.Edits.{Above, ascends-head, ascends-tail}
+use Rattle.mig_model.proofs.Edits.{Above, ascends-head, ascends-tail}
 use Rattle.std.proofs.lemmas.Cmp.{nat_list_cmp_total}
 use Rattle.mig_model.proofs.Searches.{not_found}
 

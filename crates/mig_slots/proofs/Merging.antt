@@ -8,8 +8,7 @@ use Rattle.mig_model.specs.Names.{Ascends, has_twice, by_bytes, has, put_all, ot
 use Rattle.mig_template.proofs.Names.{keys_moved}
 use Rattle.mig_model.proofs.OneOrder.{one_order}
 use Rattle.mig_template.proofs.Sorted.{ascends_if_once, once_if_ascends}
-use Rattle.mig_action.proofs.Edits.{ascends-put_all, same_under, under-others, under-put_all}
-use Rattle.mig_action.proofs.Orders.{among_is, none_among, put_all-permutes}
+use Rattle.mig_model.proofs.Edits.{ascends-put_all, same_under, under-others, under-put_all, among_is, none_among, put_all-permutes}
 
 module _ {A : Type 0} where
   -- what else stood under their names doesn't count

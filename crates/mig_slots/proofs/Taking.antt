@@ -17,9 +17,9 @@ use Rattle.mig_value.specs.Places.{value_at, with_value_at}
 use Rattle.mig_value.specs.Typed.{Typed, Slot}
 use Rattle.mig_value.specs.View.{slot_of}
 use Rattle.mig_value.specs.declared.slots.Slot as code
-use Rattle.mig_action.specs.NewRecord.{FieldType}
-use Rattle.mig_action.specs.Act.{by_field}
-use Rattle.mig_action.proofs.Edits.{Above, ascends-head, ascends-tail}
+use Rattle.mig_field.specs.NewRecord.{FieldType}
+use Rattle.mig_field.specs.Act.{by_field}
+use Rattle.mig_model.proofs.Edits.{Above, ascends-head, ascends-tail}
 use Rattle.mig_slots.specs.Behind.{with_behind}
 use Rattle.mig_slots.proofs.Changes.{value_here}
 

@@ -2,7 +2,7 @@
 ghost use Rattle.std.specs.Prelude.{◌≡◌, [], IfOk, if◌then◌else◌};
 ghost use Rattle.mig_value.specs.View.{typed_of};
 ghost use Rattle.mig_model.specs.Names.{has, without, put};
-ghost use Rattle.mig_action.specs.FieldFn as op;
+ghost use Rattle.mig_field.specs.FieldFn as op;
 ghost use Rattle.mig_action.specs.Moves.{move};
 ghost use Rattle.mig_slots.specs.View.{moving_of, IsOrdered};
 

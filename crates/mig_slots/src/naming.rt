@@ -1,7 +1,7 @@
 //! Slots that get another name, and slots that are forgotten or learned.
 ghost use Rattle.std.specs.Prelude.{◌≡◌, [], IfOk, option_map};
 ghost use Rattle.mig_value.specs.View.{typed_of};
-ghost use Rattle.mig_action.specs.FieldFn as op;
+ghost use Rattle.mig_field.specs.FieldFn as op;
 ghost use Rattle.mig_action.specs.Moves.{move, learned_value};
 ghost use Rattle.mig_slots.specs.View.{moving_of, IsOrdered};
 

@@ -3,7 +3,7 @@ ghost use Rattle.std.specs.Prelude.{◌≡◌, ◌++◌, ◌∷◌, [], not, map
 ghost use Rattle.std.specs.Map.{keys_of};
 ghost use Rattle.mig_model.specs.Names.{Ascends, is_among, under, without, put_all, those, others};
 ghost use Rattle.mig_value.specs.View.{typed_of, slot_of};
-ghost use Rattle.mig_action.specs.FieldFn as op;
+ghost use Rattle.mig_field.specs.FieldFn as op;
 ghost use Rattle.mig_action.specs.Moves.{move, open_record, inner_slots};
 ghost use Rattle.mig_slots.specs.View.{moving_of, IsOrdered};
 

@@ -9,8 +9,8 @@ ghost use Rattle.mig_template.specs.View.{field_of};
 ghost use Rattle.mig_tree.specs.View.{plain_of};
 ghost use Rattle.mig_value.specs.View.{typed_of, slot_of};
 ghost use Rattle.mig_slots.specs.Behind.{with_behind};
-ghost use Rattle.mig_action.specs.FieldFn.{zero};
-ghost use Rattle.mig_action.specs.Act.{by_field};
+ghost use Rattle.mig_field.specs.FieldFn.{zero};
+ghost use Rattle.mig_field.specs.Act.{by_field};
 ghost use Rattle.mig_action.specs.Moves.{learned_value, settled_value};
 
 use crate::edits::{place, take_value_at};

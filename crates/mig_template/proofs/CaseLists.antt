@@ -10,7 +10,7 @@ use Rattle.mig_template.specs.declared.fault.RecordFault.{RecordFault}
 use Rattle.mig_template.specs.declared.fault.RecordFault.TheVariants.{TwiceNamed, NoCase, Memory}
 use Rattle.mig_template.specs.Fault.{IsRecordFault}
 use Rattle.std.proofs.lemmas.List.Folds.{list_any-append}
-use Rattle.mig_template.specs.Parts.{Case, Cases, IsOrderOf, FieldsOrdered, CasesOrdered, has_twice_in, is_twice_in, is_twice_named, has_no_case}
+use Rattle.mig_model.specs.Record.{Case, Cases, IsOrderOf, FieldsOrdered, CasesOrdered, has_twice_in, is_twice_in, is_twice_named, has_no_case}
 use Rattle.mig_template.proofs.Names.{twice_moved, keys_moved}
 use Rattle.mig_model.proofs.Bools.{right_or, both_false}
 

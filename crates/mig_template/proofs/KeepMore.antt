@@ -3,8 +3,8 @@ use Rattle.std.proofs.Common.{List, [], ◌∷◌, ◌++◌}
 use Rattle.std.specs.List.{AllByRecursion}
 use Rattle.mig_model.specs.Template.{Field, fields_of, cases_of}
 use Rattle.mig_model.specs.Names.{Ascends}
-use Rattle.mig_template.specs.Kept.{TemplateKept, FieldsKept, FieldListKept, CasesKept}
-use Rattle.mig_template.specs.Parts.{Case}
+use Rattle.mig_model.specs.TemplateKept.{TemplateKept, FieldsKept, FieldListKept, CasesKept}
+use Rattle.mig_model.specs.Record.{Case}
 
 pub field_keeps_more : (fs : List Field) (f : Field) → FieldsKept (fields_of fs) → TemplateKept f.1.1 → FieldsKept (fields_of (fs ++ f ∷ []))
 field_keeps_more [] f k h = (h, tt)

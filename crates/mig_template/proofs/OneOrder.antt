@@ -12,7 +12,7 @@ use Rattle.mig_model.specs.declared.rest.Rest.{Rest}
 use Rattle.mig_model.specs.Names.{by_bytes, Ascends}
 use Rattle.mig_model.specs.Template.{Field}
 use Rattle.mig_model.proofs.OneOrder.{one_order}
-use Rattle.mig_template.specs.Parts.{Case, Cases, RecordParts, FieldsOrdered, CasesOrdered, IsChoiceOf, IsRecordOf}
+use Rattle.mig_model.specs.Record.{Case, Cases, RecordParts, FieldsOrdered, CasesOrdered, IsChoiceOf, IsRecordOf}
 
 fields_once : (gs ds cs : List Case) → FieldsOrdered gs ds → FieldsOrdered gs cs → ds ≡ cs
 fields_once [] [] [] h k = refl

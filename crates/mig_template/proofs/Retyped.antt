@@ -7,9 +7,9 @@ use Rattle.std.specs.List.Sorted.{IsStrictlySortedBy}
 use Rattle.std.specs.Map.{keys_of}
 use Rattle.mig_model.specs.Names.{Ascends, by_bytes, has_twice}
 use Rattle.mig_model.specs.Template.{Template, Field, fields_of, cases_of}
-use Rattle.mig_template.specs.Kept.{TemplateKept, FieldsKept, CasesKept}
+use Rattle.mig_model.specs.TemplateKept.{TemplateKept, FieldsKept, CasesKept}
 use Rattle.mig_template.specs.Retyped.{retyped, with_templates, cases_with, choice_with, cases_or_none, HavePlaces}
-use Rattle.mig_template.specs.Parts.{Case, Cases, IsRecord, has_twice_in}
+use Rattle.mig_model.specs.Record.{Case, Cases, IsRecord, has_twice_in}
 use Rattle.mig_template.specs.View.{template_of, field_of, case_of, given_templates}
 use Rattle.mig_template.specs.declared.template.Template as template_code
 use Rattle.mig_template.specs.declared.fields.Field as code

@@ -3,9 +3,9 @@ use Rattle.std.proofs.Common.{◌≡◌, List, [], ◌∷◌, Option, Some, None
 use Rattle.mig_model.specs.declared.rest.Rest.{Rest}
 use Rattle.mig_model.specs.declared.rest.Rest.TheVariants.{Open}
 use Rattle.mig_model.specs.Template.{Template, rec, Field, Fields, no_field, fields_of, field_list, Choice, no_choice, cases_of, case_list}
-use Rattle.mig_template.specs.Parts as parts
-use Rattle.mig_template.specs.Parts.{RecordParts, IsRecord, choice_of, cases_in, record_of}
-use Rattle.mig_template.specs.Kept.{TemplateKept, RecordKept}
+use Rattle.mig_model.specs.Record as parts
+use Rattle.mig_model.specs.Record.{RecordParts, IsRecord, choice_of, cases_in, record_of}
+use Rattle.mig_model.specs.TemplateKept.{TemplateKept, RecordKept}
 
 pub field_list_of : (fs : List Field) → field_list (fields_of fs) ≡ fs
 field_list_of [] = refl

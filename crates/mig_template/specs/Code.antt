@@ -9,8 +9,8 @@ use Rattle.mig_model.specs.declared.rest.Rest.{Rest}
 use Rattle.mig_model.specs.declared.rest.Rest.TheVariants.{Open, Closed}
 use Rattle.mig_model.specs.Stored.{head, tail, coded_name, coded_kind}
 use Rattle.mig_model.specs.Template.{Template, leaf, any, list, point, rec, sum, Fields, no_field, field, Choice, no_choice, choice, Cases, no_case, case, Field, is_must, is_open}
-use Rattle.mig_template.specs.Parts as parts
-use Rattle.mig_template.specs.Parts.{RecordParts}
+use Rattle.mig_model.specs.Record as parts
+use Rattle.mig_model.specs.Record.{RecordParts}
 
 abbrev presence_from : Bool → Presence
 presence_from true = Must

@@ -1,5 +1,3 @@
-pub mod Parts
-pub mod Kept
 pub mod Code
 pub mod Size
 pub mod Fault

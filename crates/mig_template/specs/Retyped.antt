@@ -1,7 +1,7 @@
 -- Fields, cases and records with other templates: a list has for each field a template, or none where it keeps its own.
 use Rattle.std.specs.Prelude.{◌≡◌, List, [], ◌∷◌, length, Option, Some, None, unwrap_or, option_map}
 use Rattle.mig_model.specs.Template.{Template, Field}
-use Rattle.mig_template.specs.Parts.{Case, Cases, RecordParts}
+use Rattle.mig_model.specs.Record.{Case, Cases, RecordParts}
 
 abbrev pub retyped : Option Template → Field → Field
 retyped o f = (f.0, (f.1.0, unwrap_or o f.1.1))

@@ -1,8 +1,8 @@
 -- How large a template is: how many templates, records, fields and cases there are in it at all depths.
 use Rattle.std.specs.Prelude.{ℕ, suc, ◌+◌, List}
 use Rattle.mig_model.specs.Template.{Template, list, rec, sum, Fields, no_field, field, Field, fields_of, Choice, no_choice, choice, Cases, no_case, case, cases_of}
-use Rattle.mig_template.specs.Parts as parts
-use Rattle.mig_template.specs.Parts.{RecordParts, choice_of}
+use Rattle.mig_model.specs.Record as parts
+use Rattle.mig_model.specs.Record.{RecordParts, choice_of}
 
 abbrev mutual
   pub template_size : Template → ℕ

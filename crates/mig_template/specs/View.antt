@@ -1,7 +1,7 @@
 -- The plain template that a `Template` stands for: one level, since what is inside is seen as plain data already.
 use Rattle.mig_model.specs.Template as model
-use Rattle.mig_template.specs.Parts as parts
-use Rattle.mig_template.specs.Parts.{record_of}
+use Rattle.mig_model.specs.Record as parts
+use Rattle.mig_model.specs.Record.{record_of}
 use Rattle.mig_template.specs.declared.template.Template.{Template}
 use Rattle.mig_template.specs.declared.template.Template.TheVariants as V
 use Rattle.mig_template.specs.declared.fields.Field.{Field}

@@ -5,7 +5,7 @@ ghost use Rattle.std.specs.Map.{lookup};
 ghost use Rattle.std.specs.BTreeMap.{is_at};
 ghost use Rattle.std_collections.specs.Layout.BTreeMap.{seek};
 ghost use Rattle.mig_model.specs.Names.{by_bytes, Ascends};
-ghost use Rattle.mig_template.specs.Parts.{found_case};
+ghost use Rattle.mig_model.specs.Record.{found_case};
 ghost use Rattle.mig_template.specs.View.{case_of};
 
 use crate::{Case, Fields, Record};

@@ -4,8 +4,8 @@ ghost use Rattle.std.specs.List.{AllByRecursion, list_any};
 ghost use Rattle.std.specs.Map.{keys_of};
 ghost use Rattle.mig_model.specs.Names.{has_twice, same_name, Ascends, is_among};
 ghost use Rattle.mig_model.specs.Template.{cases_of};
-ghost use Rattle.mig_template.specs.Kept.{CasesKept};
-ghost use Rattle.mig_template.specs.Parts.{IsOrderOf, FieldsOrdered, CasesOrdered, has_twice_in, is_twice_in};
+ghost use Rattle.mig_model.specs.TemplateKept.{CasesKept};
+ghost use Rattle.mig_model.specs.Record.{IsOrderOf, FieldsOrdered, CasesOrdered, has_twice_in, is_twice_in};
 ghost use Rattle.mig_template.specs.Fault.{IsRecordFault};
 ghost use Rattle.mig_template.specs.View.{field_of, case_of, given_case};
 

@@ -4,8 +4,8 @@ ghost use Rattle.std.specs.List.Sorted.{IsSearchInRange};
 ghost use Rattle.std.specs.Map.{keys_of};
 ghost use Rattle.std_collections.specs.Layout.BTreeMap.{seek};
 ghost use Rattle.mig_model.specs.Names.{by_bytes, Ascends, under, is_among};
-ghost use Rattle.mig_template.specs.Parts.{musts_in};
-ghost use Rattle.mig_template.specs.Kept.{TemplateKept};
+ghost use Rattle.mig_model.specs.Record.{musts_in};
+ghost use Rattle.mig_model.specs.TemplateKept.{TemplateKept};
 ghost use Rattle.mig_template.specs.Retyped.{retyped, with_templates};
 ghost use Rattle.mig_template.specs.View.{template_of, field_of};
 
@@ -53,8 +53,8 @@ impl Model for Fields {
     ghost view = { λ a. map field_of a.list.items };
 
     ghost use Rattle.std.specs.Prelude.{◌≡◌};
-    ghost use Rattle.mig_template.specs.Parts.{musts_in};
-    ghost use Rattle.mig_template.specs.Kept.{FieldListKept};
+    ghost use Rattle.mig_model.specs.Record.{musts_in};
+    ghost use Rattle.mig_model.specs.TemplateKept.{FieldListKept};
 
     ghost invariant = { λ a. FieldListKept (map field_of a.list.items) × (a.musts
         ≡ musts_in (map field_of a.list.items)) };
@@ -117,7 +117,7 @@ impl Field {
 }
 
 impl Fields {
-    ghost use Rattle.mig_template.specs.Kept.{FieldListKept};
+    ghost use Rattle.mig_model.specs.TemplateKept.{FieldListKept};
 
     /// These fields, whose names ascend and whose templates keep what a template keeps. It counts those that have to be there.
     pub fn new(list: Vec<Field>) -> Fields

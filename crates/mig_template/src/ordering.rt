@@ -3,8 +3,8 @@ ghost use Rattle.std.specs.Prelude.{◌≡◌, map, false, true, IsTrue, IfSome,
 ghost use Rattle.std.specs.Map.{keys_of};
 ghost use Rattle.mig_model.specs.Names.{has_twice};
 ghost use Rattle.mig_model.specs.Template.{fields_of};
-ghost use Rattle.mig_template.specs.Parts.{IsOrderOf};
-ghost use Rattle.mig_template.specs.Kept.{FieldsKept};
+ghost use Rattle.mig_model.specs.Record.{IsOrderOf};
+ghost use Rattle.mig_model.specs.TemplateKept.{FieldsKept};
 ghost use Rattle.mig_template.specs.View.{field_of};
 
 use crate::{Field, Fields};

@@ -1,9 +1,9 @@
 //! Records: their parts, and records with other templates in the same places.
 ghost use Rattle.std.specs.Prelude.{◌≡◌, ◌↔◌, Some, false, length, map, option_map, IfOk, IfErr, IsTrue};
-ghost use Rattle.mig_template.specs.Parts.{IsRecordOf, is_twice_named, has_no_case, choice_of};
+ghost use Rattle.mig_model.specs.Record.{IsRecordOf, is_twice_named, has_no_case, choice_of};
 ghost use Rattle.mig_template.specs.Fault.{IsRecordFault};
 ghost use Rattle.mig_model.specs.Template.{cases_of};
-ghost use Rattle.mig_template.specs.Kept.{FieldListKept, CasesKept, ChoiceKept};
+ghost use Rattle.mig_model.specs.TemplateKept.{FieldListKept, CasesKept, ChoiceKept};
 ghost use Rattle.mig_template.specs.Retyped.{HavePlaces, with_templates, choice_with, record_with, cases_or_none};
 ghost use Rattle.mig_template.specs.View.{template_of, field_of, case_of, given_choice, given_templates};
 
@@ -76,14 +76,14 @@ impl Drop for Record {
 
 impl Model for Choice {
     ghost use Rattle.std.specs.Prelude.{map};
-    ghost use Rattle.mig_template.specs.Parts.{Cases};
+    ghost use Rattle.mig_model.specs.Record.{Cases};
     ghost use Rattle.mig_template.specs.Code.{coded_choice};
 
     ghost Value = { Cases };
 
     ghost coded = { coded_choice };
 
-    ghost use Rattle.mig_template.specs.Parts.{IsRecordOf, is_twice_named, has_no_case};
+    ghost use Rattle.mig_model.specs.Record.{IsRecordOf, is_twice_named, has_no_case};
     ghost use Rattle.mig_template.specs.Fault.{IsRecordFault};
     ghost use Rattle.mig_template.specs.View.{field_of, case_of, given_choice};
 
@@ -100,7 +100,7 @@ impl Model for Choice {
 }
 
 impl Model for Record {
-    ghost use Rattle.mig_template.specs.Parts.{RecordParts};
+    ghost use Rattle.mig_model.specs.Record.{RecordParts};
     ghost use Rattle.mig_template.specs.Code.{coded_record};
 
     ghost Value = { RecordParts };
@@ -109,7 +109,7 @@ impl Model for Record {
 
     ghost view = { λ a. record { fields = a.fields; choice = a.choice; rest = a.rest } };
 
-    ghost use Rattle.mig_template.specs.Kept.{RecordKept};
+    ghost use Rattle.mig_model.specs.TemplateKept.{RecordKept};
 
     ghost invariant = { λ a. RecordKept (record { fields = a.fields; choice = a.choice; rest = a.rest }) };
 
@@ -150,7 +150,7 @@ impl Case {
 }
 
 impl Choice {
-    ghost use Rattle.mig_template.specs.Parts.{choice_of};
+    ghost use Rattle.mig_model.specs.Record.{choice_of};
 
     /// The choice of a tag's name and cases in the order of their literals.
     pub fn new(tag: Name, cases: Vec<Case>, kept: bool) -> Choice
@@ -336,8 +336,8 @@ impl Record {
         })
     }
 
-    ghost use Rattle.mig_template.specs.Parts.{record_of};
-    ghost use Rattle.mig_template.specs.Kept.{RecordKept};
+    ghost use Rattle.mig_model.specs.Record.{record_of};
+    ghost use Rattle.mig_model.specs.TemplateKept.{RecordKept};
 
     /// The record of parts that are in order already and keep what a record keeps. It sorts nothing.
     pub fn from_parts(fields: Fields, choice: Option<Choice>, rest: Rest) -> Record

@@ -46,7 +46,7 @@ impl Model for TemplateBox {
 
     ghost view = { λ a. template_of a.template.value };
 
-    ghost use Rattle.mig_template.specs.Kept.{TemplateKept};
+    ghost use Rattle.mig_model.specs.TemplateKept.{TemplateKept};
 
     ghost invariant = { λ a. TemplateKept (template_of a.template.value) };
 
@@ -62,7 +62,7 @@ impl Model for TemplateBox {
 
 impl TemplateBox {
     ghost use Rattle.mig_template.specs.View.{template_of};
-    ghost use Rattle.mig_template.specs.Kept.{TemplateKept};
+    ghost use Rattle.mig_model.specs.TemplateKept.{TemplateKept};
 
     /// The template, on the heap.
     pub fn new(alloc: Global, template: Template) -> Result<TemplateBox, Memory>
@@ -89,7 +89,7 @@ impl Template {
     ghost use Rattle.mig_model.specs.Template.{has_kind, sum};
     ghost use Rattle.mig_template.specs.KindSet.{is_in};
     ghost use Rattle.mig_template.specs.View.{template_of};
-    ghost use Rattle.mig_template.specs.Kept.{TemplateKept};
+    ghost use Rattle.mig_model.specs.TemplateKept.{TemplateKept};
 
     /// Does nothing. Its contract tells what every template keeps at every depth.
     pub fn keeps(&self)

@@ -5,7 +5,7 @@ use Rattle.mig_template.specs.Size.{field_list_size, cases_size}
 use Rattle.mig_template.proofs.Smaller.{field_smaller, case_smaller}
 use Rattle.mig_template.proofs.Alike.{views_at, alike_more}
 use Rattle.mig_template.specs.View.{template_of, field_of, case_of}
-use Rattle.mig_template.specs.Parts.{record_of}
+use Rattle.mig_model.specs.Record.{record_of}
 use Rattle.mig_template.proofs.Views.{same_parts}
 use Rattle.mig_template.proofs.+same.Goals as goal
 

@@ -1,7 +1,7 @@
 use Rattle.std.proofs.Common.{◌≡◌, ◌∙◌, ap, subst}
 use Rattle.std.specs.Prelude.{IfOk}
 use Rattle.mig_model.specs.Family.{body}
-use Rattle.mig_template.specs.Parts.{record_of}
+use Rattle.mig_model.specs.Record.{record_of}
 use Rattle.mig_value.specs.Fit.{FitAsRead}
 use Rattle.mig_value.specs.View.{typed_of}
 use Rattle.func_tests.proofs.Shapes.{read_shape}

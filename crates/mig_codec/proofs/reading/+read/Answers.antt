@@ -7,7 +7,7 @@ use Rattle.mig_model.specs.Kinds.{kind_of}
 use Rattle.mig_model.specs.Template as model
 use Rattle.mig_model.specs.Template.{has_kind}
 use Rattle.mig_model.specs.Inhabits.{is_in_form, items_in_form, entries_in_form}
-use Rattle.mig_template.specs.Parts.{record_of}
+use Rattle.mig_model.specs.Record.{record_of}
 use Rattle.mig_template.specs.View.{template_of}
 use Rattle.std.proofs.lemmas.List.{length-map}
 use Rattle.std.proofs.lemmas.List.{map-append}

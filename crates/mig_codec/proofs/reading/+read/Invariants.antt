@@ -1,6 +1,6 @@
 use Rattle.std.proofs.Common.{◌+◌, ◌*◌, map}
 use Rattle.mig_model.specs.Template as model
-use Rattle.mig_template.specs.Parts.{record_of}
+use Rattle.mig_model.specs.Record.{record_of}
 use Rattle.mig_template.specs.View.{template_of}
 use Rattle.mig_tree.specs.View.{plain_of, entry_of}
 use Rattle.mig_value.specs.View.{typed_of}

@@ -1,7 +1,7 @@
 use Rattle.std.proofs.Common.{Some, sym, ap, ◌∙◌}
 use Rattle.std.specs.Prelude.{option_map}
 use Rattle.mig_template.specs.View.{template_of}
-use Rattle.mig_action.specs.NewRecord.{inner_fields}
+use Rattle.mig_field.specs.NewRecord.{inner_fields}
 use Rattle.mig_func.proofs.Within.{record_within}
 use Rattle.mig_func.proofs.apply.inner_fields.Goals as goal
 

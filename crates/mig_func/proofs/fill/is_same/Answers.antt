@@ -1,5 +1,5 @@
 use Rattle.mig_template.specs.View.{template_of}
-use Rattle.mig_func.proofs.Same.{told}
+use Rattle.mig_field.proofs.Same.{told}
 use Rattle.mig_func.proofs.fill.is_same.Goals as goal
 
 pub returns : goal.returns

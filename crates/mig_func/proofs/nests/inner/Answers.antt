@@ -4,7 +4,7 @@ use Rattle.mig_model.specs.Names.{has_twice, those}
 use Rattle.mig_model.specs.Template.{Field}
 use Rattle.mig_template.specs.View.{field_of}
 use Rattle.mig_template.proofs.Sorted.{once_if_ascends}
-use Rattle.mig_action.proofs.Edits.{ascends-those}
+use Rattle.mig_model.proofs.Edits.{ascends-those}
 use Rattle.mig_func.proofs.Nesting.{inner_is}
 use Rattle.mig_func.proofs.Outcomes.{fault_is}
 use Rattle.mig_func.proofs.nests.inner.Goals as goal

@@ -1,7 +1,7 @@
 use Rattle.std.proofs.Common.{◌∙◌, ap}
 use Rattle.std.specs.Map.{keys_of}
 use Rattle.mig_model.specs.Names.{is_among}
-use Rattle.mig_action.proofs.Orders.{among_is}
+use Rattle.mig_model.proofs.Edits.{among_is}
 use Rattle.mig_func.proofs.nests.is_there.Goals as goal
 
 pub returns : goal.returns

@@ -2,7 +2,7 @@ use Rattle.std.proofs.Common.{rules, ◌≡◌, ◌∙◌, ◌∷◌, ◌++◌, 
 use Rattle.std.specs.List.{list_all}
 use Rattle.mig_model.specs.declared.presence.Presence.TheVariants.{Must}
 use Rattle.mig_model.specs.Names.{has_twice, has, others}
-use Rattle.mig_action.specs.NewRecord.{is_some_name}
+use Rattle.mig_field.specs.NewRecord.{is_some_name}
 use Rattle.mig_template.specs.View.{field_of}
 use Rattle.mig_func.proofs.Nesting.{nest_offers}
 use Rattle.mig_func.proofs.nests.nested.Goals as goal

@@ -1,11 +1,11 @@
 use Rattle.std.proofs.Common.{rules, ◌≡◌, ◌∙◌, ◌++◌, Bool, false, Option, None, map, sym, ap, arith}
 use Rattle.std.specs.Prelude.{is_some, option_map}
 use Rattle.mig_model.specs.Template.{no_choice}
-use Rattle.mig_template.specs.Parts.{choice_of}
+use Rattle.mig_model.specs.Record.{choice_of}
 use Rattle.mig_template.specs.View.{field_of}
 use Rattle.mig_template.proofs.Sorted.{once_if_ascends}
 use Rattle.mig_model.specs.Names.{without}
-use Rattle.mig_action.specs.NewRecord.{unnested}
+use Rattle.mig_field.specs.NewRecord.{unnested}
 use Rattle.mig_func.proofs.Nesting.{unnest_offers}
 use Rattle.mig_func.proofs.nests.outside.Goals as goal
 

@@ -1,5 +1,5 @@
 use Rattle.std.proofs.Common.{◌≡◌, ◌++◌, map, take}
-use Rattle.mig_action.specs.NewRecord.{unnested}
+use Rattle.mig_field.specs.NewRecord.{unnested}
 use Rattle.mig_template.specs.View.{field_of}
 use Rattle.mig_func.proofs.nests.with_outer.Given as goal
 

@@ -1,7 +1,7 @@
 use Rattle.std.proofs.Common.{rules, ◌≡◌, ◌∙◌, ◌∷◌, ◌++◌, [], true, map, sym, ap}
 use Rattle.mig_model.specs.declared.presence.Presence.TheVariants.{Must}
-use Rattle.mig_action.specs.FieldFn.{fill_template}
-use Rattle.mig_action.specs.NewRecord.{is_clear}
+use Rattle.mig_field.specs.FieldFn.{fill_template}
+use Rattle.mig_field.specs.NewRecord.{is_clear}
 use Rattle.mig_template.specs.View.{field_of}
 use Rattle.mig_func.specs.View.{fill_of}
 use Rattle.mig_func.proofs.Offers.{add_offers}

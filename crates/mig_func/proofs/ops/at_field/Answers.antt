@@ -1,7 +1,7 @@
 use Rattle.std.proofs.Common.{◌≡◌, ◌∙◌, Some, map, sym, ap, subst}
 use Rattle.std.specs.Prelude.{is_some}
 use Rattle.mig_model.specs.Names.{under, put}
-use Rattle.mig_action.specs.NewRecord.{FieldType, at_field}
+use Rattle.mig_field.specs.NewRecord.{FieldType, at_field}
 use Rattle.mig_template.specs.View.{template_of, field_of}
 use Rattle.mig_func.specs.New.{IsNew}
 use Rattle.mig_func.specs.Slot.{slot_after}

@@ -1,7 +1,7 @@
 use Rattle.std.proofs.Common.{◌≡◌, ◌∙◌, List, map, sym, ap}
 use Rattle.std.proofs.lemmas.Result.{IfOk-weaker}
 use Rattle.mig_model.specs.Template.{Field}
-use Rattle.mig_template.specs.Parts.{Case}
+use Rattle.mig_model.specs.Record.{Case}
 use Rattle.mig_template.specs.View.{field_of, given_case}
 use Rattle.mig_model.specs.Names.{without}
 use Rattle.mig_func.proofs.Outcomes.{fault_map}

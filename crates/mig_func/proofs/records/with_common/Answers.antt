@@ -1,7 +1,7 @@
 use Rattle.std.proofs.Common.{◌∙◌, List, map, sym, ap, subst₂}
 use Rattle.std.proofs.lemmas.Result.{IfOk-weaker}
 use Rattle.mig_model.specs.Template.{Field}
-use Rattle.mig_template.specs.Parts.{IsRecordOf, is_twice_named}
+use Rattle.mig_model.specs.Record.{IsRecordOf, is_twice_named}
 use Rattle.mig_template.specs.View.{field_of}
 use Rattle.mig_func.proofs.Outcomes.{fault_map}
 use Rattle.mig_func.proofs.Rebuilt.{common_made}

@@ -1,6 +1,6 @@
 use Rattle.std.proofs.Common.{◌≡◌, map, drop}
 use Rattle.mig_template.specs.View.{field_of}
-use Rattle.mig_action.specs.NewRecord.{are_easy}
+use Rattle.mig_field.specs.NewRecord.{are_easy}
 use Rattle.mig_func.proofs.retags.are_easy.Given as goal
 
 abbrev pub invariant-loop-field : goal.invariant-loop-field

@@ -8,9 +8,9 @@ use Rattle.mig_model.proofs.Rising.{nothing_ascends}
 use Rattle.mig_template.specs.View.{field_of}
 use Rattle.mig_template.proofs.Sorted.{once_if_ascends}
 use Rattle.mig_value.specs.Parts.{RecordParts, IsRecordValue}
-use Rattle.mig_action.specs.NewRecord.{FieldType}
+use Rattle.mig_field.specs.NewRecord.{FieldType}
 use Rattle.mig_action.specs.Moves.{settle_case, is_of_case}
-use Rattle.mig_action.proofs.Edits.{under-put_all, ascends-put_all}
+use Rattle.mig_model.proofs.Edits.{under-put_all, ascends-put_all}
 use Rattle.mig_action.proofs.Settings.{first-none}
 use Rattle.mig_action.proofs.Settling.{settle_in_order}
 use Rattle.mig_func.specs.Settled.{cased_value}

@@ -4,9 +4,9 @@ use Rattle.mig_model.specs.Names.{put_all}
 use Rattle.mig_model.specs.Template as template
 use Rattle.mig_model.proofs.OneOrder.{one_order}
 use Rattle.mig_model.proofs.Rising.{nothing_ascends}
-use Rattle.mig_template.specs.Parts.{IsOrderOf}
+use Rattle.mig_model.specs.Record.{IsOrderOf}
 use Rattle.mig_template.specs.View.{field_of}
-use Rattle.mig_action.specs.NewRecord.{FieldType}
+use Rattle.mig_field.specs.NewRecord.{FieldType}
 use Rattle.mig_func.proofs.Offers.{order_all}
 use Rattle.mig_func.proofs.Tests.{any_never}
 use Rattle.mig_func.proofs.settling.ordered.Goals as goal

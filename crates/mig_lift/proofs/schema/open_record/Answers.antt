@@ -3,7 +3,7 @@ use Rattle.std.specs.Map.{keys_of}
 use Rattle.mig_model.specs.declared.rest.Rest.TheVariants.{Open}
 use Rattle.mig_model.specs.Names.{has_twice}
 use Rattle.mig_template.specs.Fault.{IsRecordFault}
-use Rattle.mig_template.specs.Parts.{IsRecordOf}
+use Rattle.mig_model.specs.Record.{IsRecordOf}
 use Rattle.mig_template.specs.View as templates
 use Rattle.mig_small.specs.View.{field_of}
 use Rattle.mig_lift.proofs.Families.{no_twice, record_is}

@@ -1,5 +1,5 @@
 use Rattle.std.proofs.Common.{◌≡◌, sym, arith}
-use Rattle.mig_template.specs.Parts.{musts_in}
+use Rattle.mig_model.specs.Record.{musts_in}
 use Rattle.mig_row.specs.Row.{musts_among}
 use Rattle.mig_row.proofs.Musts.{none_missing}
 use Rattle.mig_row.proofs.row.first_missing.Goals as goal

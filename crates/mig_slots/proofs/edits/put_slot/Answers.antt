@@ -5,7 +5,7 @@ use Rattle.mig_model.specs.Names.{Ascends}
 use Rattle.mig_model.proofs.Searches.{inserted, replaced}
 use Rattle.mig_value.specs.View.{typed_of, slot_of}
 use Rattle.mig_value.specs.declared.slots.Slot.{Slot}
-use Rattle.mig_action.proofs.Edits.{ascends-put}
+use Rattle.mig_model.proofs.Edits.{ascends-put}
 use Rattle.mig_slots.proofs.edits.put_slot.Goals as goal
 
 pub returns-in-Ok-clause-put : goal.returns-in-Ok-clause-put

@@ -6,7 +6,7 @@ use Rattle.mig_model.specs.Names.{Ascends}
 use Rattle.mig_model.proofs.Searches.{found_there, key_there, not_found, nothing_removed, removed}
 use Rattle.mig_value.specs.View.{slot_of}
 use Rattle.mig_value.specs.declared.slots.Slot.{Slot}
-use Rattle.mig_action.proofs.Edits.{ascends-without}
+use Rattle.mig_model.proofs.Edits.{ascends-without}
 use Rattle.mig_slots.proofs.edits.take_slot.Goals as goal
 
 pub returns-in-Ok-clause-taken : goal.returns-in-Ok-clause-taken

@@ -1,7 +1,7 @@
 use Rattle.std.proofs.Common.{map}
 use Rattle.mig_model.specs.Plain as plain
 use Rattle.mig_leaf.specs.View.{leaf_fn_of}
-use Rattle.mig_action.specs.Act.{unified}
+use Rattle.mig_field.specs.Act.{unified}
 use Rattle.mig_action.specs.Moves.{at_side}
 use Rattle.mig_slots.specs.Fitting.{OneFitsSide}
 use Rattle.mig_value.specs.Typed.{atom}

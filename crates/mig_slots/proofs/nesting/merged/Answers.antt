@@ -5,7 +5,7 @@ use Rattle.std.proofs.lemmas.List.Sorted.{IsPermutation-map}
 use Rattle.mig_value.specs.View.{slot_of}
 use Rattle.mig_value.specs.declared.slots.Slot as code
 use Rattle.mig_model.specs.Names.{others}
-use Rattle.mig_action.proofs.Edits.{ascends-others}
+use Rattle.mig_model.proofs.Edits.{ascends-others}
 use Rattle.mig_slots.proofs.Merging.{merged_is}
 use Rattle.mig_slots.proofs.nesting.merged.Goals as goal
 

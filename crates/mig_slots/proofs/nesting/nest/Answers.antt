@@ -1,7 +1,7 @@
 use Rattle.std.proofs.Common.{map, sym, subst}
 use Rattle.mig_model.specs.Names.{Ascends}
 use Rattle.mig_value.specs.View.{slot_of}
-use Rattle.mig_action.proofs.Edits.{ascends-those, ascends-others}
+use Rattle.mig_model.proofs.Edits.{ascends-those, ascends-others}
 use Rattle.mig_slots.proofs.nesting.nest.Goals as goal
 
 pub open_record-requires : goal.open_record-requires

@@ -2,10 +2,10 @@ use Rattle.std.proofs.Common.{rules, ◌∷◌, List, map, subst, sym}
 use Rattle.std.specs.Prelude.{IsPermutation, IsTrue}
 use Rattle.std.specs.Map.{keys_of}
 use Rattle.std.proofs.lemmas.List.Sorted.{IsPermutation-map}
-use Rattle.mig_template.specs.Parts as parts
+use Rattle.mig_model.specs.Record as parts
 use Rattle.mig_model.specs.Names.{Ascends, AscendBy}
 use Rattle.mig_model.proofs.Rising.{ascend_by, by_ascends}
-use Rattle.mig_template.specs.Parts.{has_twice_in, is_twice_in}
+use Rattle.mig_model.specs.Record.{has_twice_in, is_twice_in}
 use Rattle.mig_template.specs.View.{case_of, given_case}
 use Rattle.mig_template.specs.declared.record.Case.{Case}
 use Rattle.mig_template.proofs.CaseLists.{keys_twice, keys_once}

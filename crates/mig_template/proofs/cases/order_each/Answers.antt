@@ -4,7 +4,7 @@ use Rattle.std.specs.List.{list_any}
 use Rattle.std.specs.Map.{keys_of}
 use Rattle.std.proofs.lemmas.Iterator.Adapters.{YieldsList-from_vec}
 use Rattle.std.proofs.lemmas.Iterator.Consumers.{YieldsList-turn}
-use Rattle.mig_template.specs.Parts.{Case, FieldsOrdered, has_twice_in}
+use Rattle.mig_model.specs.Record.{Case, FieldsOrdered, has_twice_in}
 use Rattle.mig_template.specs.View.{field_of, case_of, given_case}
 use Rattle.mig_template.proofs.Alike.{any_at}
 use Rattle.mig_template.proofs.CaseLists.{ordered_more, none_more}

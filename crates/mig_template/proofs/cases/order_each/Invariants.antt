@@ -1,7 +1,7 @@
 use Rattle.std.proofs.Common.{◌≡◌, ◌∷◌, false, map}
 use Rattle.std.specs.List.{list_any}
 use Rattle.std.specs.Map.{keys_of}
-use Rattle.mig_template.specs.Parts.{FieldsOrdered, has_twice_in}
+use Rattle.mig_model.specs.Record.{FieldsOrdered, has_twice_in}
 use Rattle.mig_template.specs.View.{case_of, given_case}
 use Rattle.mig_template.proofs.cases.order_each.Given as goal
 

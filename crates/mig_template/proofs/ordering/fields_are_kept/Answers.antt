@@ -1,6 +1,6 @@
 use Rattle.std.proofs.Common.{◌≡◌, ◌+◌, ◌++◌, ◌∷◌, [], map, take, sym, subst}
 use Rattle.mig_model.specs.Template.{fields_of}
-use Rattle.mig_template.specs.Kept.{FieldsKept}
+use Rattle.mig_model.specs.TemplateKept.{FieldsKept}
 use Rattle.mig_template.specs.View.{field_of}
 use Rattle.mig_template.proofs.Alike.{one_more}
 use Rattle.mig_template.proofs.KeepMore.{field_keeps_more}

@@ -4,8 +4,8 @@ use Rattle.std.proofs.lemmas.List.Sorted.{IsPermutation-map}
 use Rattle.mig_model.specs.Names.{Ascends, AscendBy}
 use Rattle.mig_model.proofs.Rising.{ascend_by, by_ascends}
 use Rattle.mig_model.specs.Template.{fields_of}
-use Rattle.mig_template.specs.Kept.{FieldsKept}
-use Rattle.mig_template.specs.Parts.{IsOrderOf}
+use Rattle.mig_model.specs.TemplateKept.{FieldsKept}
+use Rattle.mig_model.specs.Record.{IsOrderOf}
 use Rattle.mig_template.specs.View.{field_of}
 use Rattle.mig_template.specs.declared.fields.Field.{Field}
 use Rattle.mig_template.proofs.Names.{keys_moved}

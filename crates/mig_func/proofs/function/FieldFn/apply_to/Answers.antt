@@ -1,6 +1,6 @@
 use Rattle.std.proofs.Common.{sym, ap, ◌∙◌}
 use Rattle.std.specs.Prelude.{option_map}
-use Rattle.mig_template.specs.Parts.{found_case}
+use Rattle.mig_model.specs.Record.{found_case}
 use Rattle.mig_func.specs.View.{scope_of, field_op_of}
 use Rattle.mig_func.proofs.Applied.{cased_facts}
 use Rattle.mig_func.proofs.function.FieldFn.apply_to.Goals as goal

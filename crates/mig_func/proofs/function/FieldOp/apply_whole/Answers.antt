@@ -2,7 +2,7 @@ use Rattle.std.proofs.Common.{◌≡◌, List, false, Some, map, sym, ap, subst,
 use Rattle.std.specs.Map.{keys_of}
 use Rattle.mig_model.specs.Names.{has_twice}
 use Rattle.std.specs.Prelude.{option_map}
-use Rattle.mig_template.specs.Parts.{found_case}
+use Rattle.mig_model.specs.Record.{found_case}
 use Rattle.mig_template.specs.View.{field_of}
 use Rattle.mig_template.specs.declared.fields.Field.{Field}
 use Rattle.mig_value.specs.Parts.{IsRecordValue}

@@ -1,5 +1,5 @@
 use Rattle.std.proofs.Common.{map, subst}
-use Rattle.mig_action.specs.FieldFn.{in_case}
+use Rattle.mig_field.specs.FieldFn.{in_case}
 use Rattle.mig_template.specs.View.{field_of}
 use Rattle.mig_func.specs.New.{IsMisfit, Offers, Refuses}
 use Rattle.mig_func.specs.View.{field_op_of}

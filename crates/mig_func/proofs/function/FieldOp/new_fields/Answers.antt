@@ -1,5 +1,5 @@
 use Rattle.std.proofs.Common.{◌≡◌, None, map, subst}
-use Rattle.mig_action.specs.NewRecord.{at_field}
+use Rattle.mig_field.specs.NewRecord.{at_field}
 use Rattle.mig_template.specs.View.{field_of}
 use Rattle.mig_func.specs.New.{Offers, OffersList, Refuses}
 use Rattle.mig_func.specs.Slot.{slot_after}

@@ -2,7 +2,7 @@ use Rattle.std.proofs.Common.{◌≡◌, ◌∙◌, ◌+◌, ◌++◌, Some, nat
 use Rattle.std.proofs.lemmas.Result.{on_ok_weaker}
 use Rattle.indexmap.specs.IndexSet.{insert_all}
 use Rattle.mig_model.specs.Template.{fields_of, cases_of}
-use Rattle.mig_template.specs.Parts.{choice_of}
+use Rattle.mig_model.specs.Record.{choice_of}
 use Rattle.mig_template.specs.Size.{field_list_size, cases_size}
 use Rattle.mig_template.specs.View.{template_of, field_of, case_of}
 use Rattle.mig_template.proofs.Smaller.{field_smaller, case_smaller}

@@ -4,7 +4,7 @@ use Rattle.mig_model.specs.Names.{Ascends}
 use Rattle.mig_model.proofs.Loops.{in_hand, all_behind, fewer}
 use Rattle.std.proofs.lemmas.List.{length-map, length-append, map-append}
 use Rattle.mig_model.specs.Template.{fields_of}
-use Rattle.mig_template.specs.Kept.{FieldsKept}
+use Rattle.mig_model.specs.TemplateKept.{FieldsKept}
 use Rattle.mig_template.specs.declared.fields.Field.{Field}
 use Rattle.mig_template.specs.Retyped.{with_templates}
 use Rattle.mig_template.specs.View.{template_of, field_of}

@@ -1,7 +1,7 @@
 use Rattle.std.proofs.Common.{◌≡◌, map, length}
 use Rattle.std.specs.Prelude.{option_map}
 use Rattle.mig_model.specs.Template.{fields_of}
-use Rattle.mig_template.specs.Kept.{FieldsKept}
+use Rattle.mig_model.specs.TemplateKept.{FieldsKept}
 use Rattle.mig_template.specs.Retyped.{with_templates}
 use Rattle.mig_template.specs.View.{template_of, field_of}
 use Rattle.mig_template.proofs.fields.Fields.with_templates.Given as goal

@@ -3,7 +3,7 @@ use Rattle.std.specs.Prelude.{option_map}
 use Rattle.std.proofs.lemmas.List.{length-map, length-append, map-append}
 use Rattle.mig_model.proofs.Loops.{in_hand, all_behind}
 use Rattle.mig_model.specs.Template.{cases_of}
-use Rattle.mig_template.specs.Kept.{CasesKept}
+use Rattle.mig_model.specs.TemplateKept.{CasesKept}
 use Rattle.mig_template.specs.declared.record.Case.{Case}
 use Rattle.mig_template.specs.Retyped.{cases_with}
 use Rattle.mig_template.specs.View.{template_of, case_of, given_templates}

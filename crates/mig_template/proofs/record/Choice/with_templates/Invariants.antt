@@ -1,6 +1,6 @@
 use Rattle.std.proofs.Common.{◌≡◌, map, length}
 use Rattle.mig_model.specs.Template.{cases_of}
-use Rattle.mig_template.specs.Kept.{CasesKept}
+use Rattle.mig_model.specs.TemplateKept.{CasesKept}
 use Rattle.mig_template.specs.Retyped.{cases_with}
 use Rattle.mig_template.specs.View.{case_of, given_templates}
 use Rattle.mig_template.proofs.record.Choice.with_templates.Given as goal

@@ -5,8 +5,8 @@ use Rattle.std.proofs.lemmas.List.{length-map}
 use Rattle.std.proofs.lemmas.Result.{err_from_is_err_and}
 use Rattle.mig_model.specs.Names.{has_twice, is_among}
 use Rattle.mig_model.specs.Template.{Field}
-use Rattle.mig_template.specs.Parts as parts
-use Rattle.mig_template.specs.Parts.{is_twice_in}
+use Rattle.mig_model.specs.Record as parts
+use Rattle.mig_model.specs.Record.{is_twice_in}
 use Rattle.mig_template.specs.View.{field_of, case_of, given_case, given_choice}
 use Rattle.mig_template.proofs.CaseLists.{tag_once, twice_in_parts, tag_twice, none_twice, fault_more, cases_counted}
 use Rattle.mig_template.proofs.Sorted.{once_if_ascends}

@@ -2,7 +2,7 @@ use Rattle.std.proofs.Common.{◌≡◌, ◌∙◌, sym, ap, subst, List, Option
 use Rattle.std.specs.Prelude.{option_map}
 use Rattle.std.proofs.lemmas.List.{length-map}
 use Rattle.mig_model.specs.Template.{Field}
-use Rattle.mig_template.specs.Parts.{IsRecord, Cases}
+use Rattle.mig_model.specs.Record.{IsRecord, Cases}
 use Rattle.mig_template.specs.Retyped.{with_templates}
 use Rattle.mig_template.specs.View.{template_of, given_templates}
 use Rattle.mig_template.proofs.Retyped.{still_record}

@@ -1,5 +1,5 @@
 use Rattle.std.proofs.Common.{sym, subst}
-use Rattle.mig_template.specs.Kept.{TemplateKept}
+use Rattle.mig_model.specs.TemplateKept.{TemplateKept}
 use Rattle.mig_template.specs.View.{template_of}
 use Rattle.mig_template.specs.declared.template.Template.{Template}
 use Rattle.mig_template.proofs.Views.{record_kept}

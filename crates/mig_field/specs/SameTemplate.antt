@@ -1,5 +1,5 @@
 -- Whether two templates are equal, as a test.
-use Rattle.std.specs.Prelude.{Bool, true, false, ◌&&◌}
+use Rattle.std.specs.Prelude.{◌≡◌, ◌↔◌, Bool, true, false, IsTrue, ◌&&◌}
 use Rattle.mig_model.specs.declared.presence.Presence.{Presence}
 use Rattle.mig_model.specs.declared.presence.Presence.TheVariants.{Must, May}
 use Rattle.mig_model.specs.declared.rest.Rest.{Rest}
@@ -46,3 +46,7 @@ abbrev mutual
   same_cases no_case no_case = true
   same_cases (case l fs cs) (case m gs ds) = same_name l m && (same_fields fs gs && same_cases cs ds)
   same_cases cs ds = false
+
+-- the test passes exactly at equal templates
+abbrev pub SameIsEqual : Type 0
+SameIsEqual = (V W : Template) → IsTrue (same_template V W) ↔ (V ≡ W)

@@ -2,7 +2,7 @@
 use Rattle.std.specs.Prelude.{List}
 use Rattle.mig_model.specs.Template.{Template, leaf, any, list, point, rec, sum, Fields, no_field, field, Field, fields_of, field_list, Choice, no_choice, choice, Cases, no_case, case}
 use Rattle.mig_model.specs.Names.{Ascends}
-use Rattle.mig_template.specs.Parts.{RecordParts, IsRecord, cases_in, choice_of}
+use Rattle.mig_model.specs.Record.{RecordParts, IsRecord, cases_in, choice_of}
 
 abbrev mutual
   pub TemplateKept : Template → Type 0

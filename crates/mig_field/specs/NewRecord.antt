@@ -14,9 +14,9 @@ use Rattle.mig_model.specs.Fields.{is_in_choice}
 use Rattle.mig_model.specs.Fields.{if_so}
 use Rattle.mig_model.specs.Leaf.{LeafFn, leaf_out}
 use Rattle.mig_model.specs.Family.{any_inside, has_point_side, sides_overlap}
-use Rattle.mig_template.specs.Parts.{RecordParts, Cases, choice_of, found_case}
-use Rattle.mig_action.specs.SameTemplate.{same_template}
-use Rattle.mig_action.specs.FieldFn.{Scope, common, in_case, Fill, fill_template, FieldOp, rename, drop, add, learn, forget, default, maybe, map_leaf, nest, unnest, wrap, unify, retag, add_case, FieldFn}
+use Rattle.mig_model.specs.Record.{RecordParts, Cases, choice_of, found_case}
+use Rattle.mig_field.specs.SameTemplate.{same_template}
+use Rattle.mig_field.specs.FieldFn.{Scope, common, in_case, Fill, fill_template, FieldOp, rename, drop, add, learn, forget, default, maybe, map_leaf, nest, unnest, wrap, unify, retag, add_case, FieldFn}
 
 -- the name is that of the tag
 abbrev pub is_tag : List ℕ → Option Cases → Bool

@@ -1,7 +1,9 @@
 -- Edits by name: what stands under each name afterwards, and that names still ascend.
 use Rattle.std.proofs.Common.{◌≡◌, ℕ, List, [], ◌∷◌, ◌++◌, Bool, true, false, true≢false, Option, Some, None, refl, sym, ap, subst, ◌∙◌, arith}
 use Rattle.std.specs.Prelude.{not, ◌&&◌, is_some, option_map, IsPermutation, if◌then◌else◌}
-use Rattle.std.specs.List.{AllByRecursion, filter}
+use Rattle.std.specs.List.{AllByRecursion, filter, list_all, list_any}
+use Rattle.std.specs.BTreeMap.{is_at}
+use Rattle.std.proofs.lemmas.Map.Made.{is_some-lookup}
 use Rattle.std.specs.List.Sorted.{IsStrictlySortedBy}
 use Rattle.std.specs.Map.{keys_of}
 use Rattle.std.specs.Ordering.{is_eq, match_ordering, ordering_reverse}
@@ -12,7 +14,8 @@ use Rattle.std.proofs.lemmas.Map.Lookups.{exact_bytes}
 use Rattle.std.proofs.lemmas.Map.Keys.{sorted_head, sorted_tail}
 use Rattle.std.proofs.lemmas.List.Kept.{IsStrictlySortedBy-filter}
 use Rattle.std.proofs.lemmas.List.Sorted.{IsPermutation-refl, IsPermutation-trans, IsPermutation-cons, IsPermutation-middle}
-use Rattle.mig_model.specs.Names.{by_bytes, Ascends, same_name, is_among, under, without, put, bring, put_all, moved, those, others, changed}
+use Rattle.mig_model.specs.Names.{by_bytes, Ascends, same_name, is_among, has_twice, under, has, without, put, bring, put_all, moved, those, others, changed}
+use Rattle.mig_model.proofs.Bools.{right_or, split_or}
 use Rattle.mig_model.proofs.Rising.{nothing_ascends}
 use Rattle.mig_model.proofs.SameNames.{same_name_is, same_name_itself, same_name_flips}
 
@@ -20,14 +23,6 @@ use Rattle.mig_model.proofs.SameNames.{same_name_is, same_name_itself, same_name
 -- of two names, one is before the other or they are equal
 pub greater_name : (x y : List ℕ) → by_bytes x y ≡ Greater → by_bytes y x ≡ Less
 greater_name x y h = nat_list_cmp_total.antisymm y x ∙ ap ordering_reverse h
-
--- ---- options
-pub none-there : {A : Type 0} (o : Option A) → is_some o ≡ false → o ≡ None
-none-there o h = grind arith
-
-pub some-there : {A : Type 0} (o : Option A) → is_some o ≡ true → (a : A) × (o ≡ Some a)
-some-there None h = absurd (true≢false (sym h))
-some-there (Some a) h = (a, refl)
 
 -- ---- what stands under a name
 pub under-put : {A : Type 0} (x : List ℕ) (a : A) (es : List (List ℕ × A)) (n : List ℕ) → under n (put x a es) ≡ (if same_name n x then Some a else under n es)
@@ -223,3 +218,31 @@ bring_without x (Some a) es n s = put_without x a es n s
 -- something is brought where nothing stands
 pub bring_at : {A : Type 0} (x : List ℕ) (o : Option A) (es : List (List ℕ × A)) (n : List ℕ) → under x es ≡ None → under n (bring x o es) ≡ (if same_name n x then o else under n es)
 bring_at x o es n h = grind (arith, under-bring x o es n, same_name_is n x)
+
+-- ---- names of a list
+pub among_is : {A : Type 0} (es : List (List ℕ × A)) (n : List ℕ) → is_among (keys_of es) n ≡ has n es
+among_is es n = sym (is_some-lookup (is_at (by_bytes n)) es)
+
+-- what a test says of each of some names
+pub all_names : (p : List ℕ → Bool) (xs : List (List ℕ)) → list_all p xs ≡ true → (n : List ℕ) → is_among xs n ≡ true → p n ≡ true
+all_names p [] h n k = cc
+all_names p (x ∷ xs) h n k = let rest = all_names p xs in grind (arith, rest, same_name_is n x)
+
+pub none_of : (p : List ℕ → Bool) (xs : List (List ℕ)) → list_any p xs ≡ false → (n : List ℕ) → is_among xs n ≡ true → p n ≡ false
+none_of p [] h n k = cc
+none_of p (x ∷ xs) h n k = let rest = none_of p xs in grind (arith, rest, same_name_is n x)
+
+pub none_among : (p : List ℕ → Bool) (xs : List (List ℕ)) → ((n : List ℕ) → is_among xs n ≡ true → p n ≡ false) → list_any p xs ≡ false
+none_among p [] h = refl
+none_among p (x ∷ xs) h = let rest = none_among p xs (λ n k. h n (right_or (same_name n x) (is_among xs n) k)) in grind (arith, rest, h x, same_name_itself x)
+
+-- entries whose names are distinct, and aren't there, are put among the others
+pub put_all-permutes : {A : Type 0} (ads base : List (List ℕ × A)) → has_twice (keys_of ads) ≡ false → list_any (λ n. has n base) (keys_of ads) ≡ false → IsPermutation (ads ++ base) (put_all ads base)
+put_all-permutes [] base once apart = IsPermutation-refl base
+put_all-permutes (n ∷ ns) base once apart =
+    let o = split_or (is_among (keys_of ns) n.0) (has_twice (keys_of ns)) once in
+    let a = split_or (has n.0 base) (list_any (λ m. has m base) (keys_of ns)) apart in
+    let none : under n.0 (put_all ns base) ≡ None = grind (arith, o, a, under-put_all ns base n.0, among_is ns n.0) in
+    IsPermutation-trans (n ∷ (ns ++ base)) (n ∷ put_all ns base) (put n.0 n.1 (put_all ns base))
+    (IsPermutation-cons n (ns ++ base) (put_all ns base) (put_all-permutes ns base o.1 a.1))
+    (put-permutes n.0 n.1 (put_all ns base) none)

@@ -12,10 +12,10 @@ use Rattle.mig_model.specs.Const.{const_tree}
 use Rattle.mig_model.specs.Fields.{if_so}
 use Rattle.mig_model.specs.Inhabits.{Entries, has_tag}
 use Rattle.mig_model.specs.Leaf.{LeafFn, leaf_value}
-use Rattle.mig_template.specs.Parts.{RecordParts, Cases, found_case}
+use Rattle.mig_model.specs.Record.{RecordParts, Cases, found_case}
 use Rattle.mig_model.specs.Names.{under, has, without, put, bring, put_all, moved, those, others, changed}
-use Rattle.mig_action.specs.FieldFn.{Scope, common, in_case, fill_tree, zero, FieldOp, rename, drop, add, learn, forget, default, maybe, map_leaf, nest, unnest, wrap, unify, retag, add_case, FieldFn}
-use Rattle.mig_action.specs.NewRecord.{FieldType, inner_fields, fields_of_case}
+use Rattle.mig_field.specs.FieldFn.{Scope, common, in_case, fill_tree, zero, FieldOp, rename, drop, add, learn, forget, default, maybe, map_leaf, nest, unnest, wrap, unify, retag, add_case, FieldFn}
+use Rattle.mig_field.specs.NewRecord.{FieldType, inner_fields, fields_of_case}
 
 -- there is a tree of the kind; None asks for nothing
 abbrev pub is_learned : Option Kind → Option Plain → Bool

@@ -1,0 +1,4 @@
+pub mod SameTemplate
+pub mod FieldFn
+pub mod NewRecord
+pub mod Act

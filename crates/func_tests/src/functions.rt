@@ -1,9 +1,9 @@
 //! Field functions by words. Want of memory and a word that isn't known end the test at once, so that no function is let go on the way.
 use crate::records::{MEMORY, field, name_of, template};
-use mig_func::{FieldFn, FieldOp, Fill, Names, Scope};
+use mig_func::{CaseFields, FieldFn, FieldOp, Fill, Names, Scope};
 use mig_leaf::{Const, LeafFn};
 use mig_schema::{Kind, Name, Template};
-use mig_template::{Field, Presence};
+use mig_template::Presence;
 use std::alloc::Global;
 use std::process::Abort;
 
@@ -14,13 +14,13 @@ fn name_at(rt: &impl Abort, alloc: Global, words: &[Name], at: usize) -> Name {
 }
 
 /// The names from a place on.
-fn names_from(rt: &impl Abort, alloc: Global, words: &[Name], at: usize) -> Vec<Name> {
+fn names_from(rt: &impl Abort, alloc: Global, words: &[Name], at: usize) -> Names {
     let mut names = Vec::new(alloc);
     for word in words.iter().skip(at) {
         let name = word.copy(alloc).expect(rt, MEMORY);
         names.push(name).expect(rt, MEMORY);
     }
-    names
+    Names::new(alloc, names).expect(rt, MEMORY)
 }
 
 /// An empty list of whole numbers.
@@ -28,15 +28,26 @@ fn empty_list(rt: &impl Abort, alloc: Global) -> Fill {
     Fill::EmptyList(template(rt, alloc, "whole"))
 }
 
+/// A sum whose sides no kind tells apart.
+const UNCLEAR: &str = "any whole or";
+
+/// One field of such a sum.
+fn unclear_field(rt: &impl Abort, alloc: Global) -> CaseFields {
+    let template = template(rt, alloc, UNCLEAR);
+    let field = field(rt, alloc, b"x", Presence::Must, template);
+    let fields = vec![in alloc; field].expect(rt, MEMORY);
+    CaseFields::new(alloc, fields).expect(rt, MEMORY)
+}
+
 /// Fields of whole numbers, of the names from a place on.
-fn fields_from(rt: &impl Abort, alloc: Global, words: &[Name], at: usize) -> Vec<Field> {
+fn fields_from(rt: &impl Abort, alloc: Global, words: &[Name], at: usize) -> CaseFields {
     let mut fields = Vec::new(alloc);
     for name in words.iter().skip(at) {
         let whole = Template::Leaf(Kind::Whole);
         let field = field(rt, alloc, name.bytes(), Presence::Must, whole);
         fields.push(field).expect(rt, MEMORY);
     }
-    fields
+    CaseFields::new(alloc, fields).expect(rt, MEMORY)
 }
 
 /// An operation on the field of one name. `map` adds 1; `unify` makes a whole number's text and a text's lower-case letters.
@@ -64,10 +75,12 @@ fn operation(rt: &impl Abort, alloc: Global, words: &[Name]) -> FieldOp {
     match verb {
         b"rename" => FieldOp::Rename(name, name_at(rt, alloc, words, 2)),
         b"retag" => FieldOp::Retag(name, name_at(rt, alloc, words, 2)),
-        b"nest" => FieldOp::Nest(Names::new(names_from(rt, alloc, words, 2)), name),
+        b"nest" => FieldOp::Nest(names_from(rt, alloc, words, 2), name),
         b"addcase" => FieldOp::AddCase(name, fields_from(rt, alloc, words, 2)),
         b"addlist" => FieldOp::Add(name, empty_list(rt, alloc)),
         b"defaultlist" => FieldOp::Default(name, empty_list(rt, alloc)),
+        b"addunclear" => FieldOp::Add(name, Fill::EmptyList(template(rt, alloc, UNCLEAR))),
+        b"addcaseunclear" => FieldOp::AddCase(name, unclear_field(rt, alloc)),
         other => at_name(rt, other, name),
     }
 }

@@ -1,5 +1,5 @@
 //! Leaf functions at the bounds of their kinds.
-use mig_leaf::{Const, LeafFn};
+use mig_leaf::{Const, LeafFn, Table};
 use mig_tree::{Kind, Memory, Name, Text, Tree};
 use std::alloc::Global;
 use std::test::Fail;
@@ -7,7 +7,7 @@ use std::test::Fail;
 /// What the function makes of the tree, or `None` where it doesn't fit.
 fn applied<'a>(
     alloc: Global,
-    function: &'a LeafFn,
+    function: &LeafFn,
     tree: Tree<'a>,
 ) -> Result<Option<Tree<'a>>, Memory> {
     if function.fits(tree.kind()).is_none() {
@@ -66,7 +66,7 @@ fn on_text(alloc: Global, function: &LeafFn, text: &[u8]) -> Result<Option<(Kind
 /// The bytes of the text that the function makes of the tree.
 fn text_from<'a>(
     alloc: Global,
-    function: &'a LeafFn,
+    function: &LeafFn,
     tree: Tree<'a>,
 ) -> Result<Option<Vec<u8>>, Memory> {
     match applied(alloc, function, tree)? {
@@ -180,7 +180,7 @@ fn leaves_become_texts(rt: HostRuntime) -> Result<(), Fail> {
         (Const::Text(Name::new(alloc, b"07")?), b"07"),
     ];
     for (leaf, want) in table {
-        let made = text_from(alloc, &LeafFn::ToText, leaf.tree())?;
+        let made = text_from(alloc, &LeafFn::ToText, leaf.tree(alloc)?)?;
         assert_eq!(rt; made.as_deref(), Some(want));
     }
     Ok(())
@@ -198,7 +198,7 @@ fn texts_are_changed(rt: HostRuntime) -> Result<(), Fail> {
     }
     let table: [(LeafFn, &[&[u8]], &[&[u8]]); 5] = [
         (
-            LeafFn::Table(pairs),
+            LeafFn::Table(Table::new(alloc, pairs)?),
             &[b"a", b"b", b"c", b""],
             &[b"1", b"2", b"c", b""],
         ),
@@ -264,7 +264,11 @@ fn functions_fit_kinds(rt: HostRuntime) -> Result<(), Fail> {
         (LeafFn::ToText, Kind::Bytes, None),
         (LeafFn::OfText(Const::Int(5)), Kind::Int, None),
         (LeafFn::OfText(Const::Float(0)), Kind::Text, None),
-        (LeafFn::Table(Vec::new(alloc)), Kind::Bytes, None),
+        (
+            LeafFn::Table(Table::new(alloc, Vec::new(alloc))?),
+            Kind::Bytes,
+            None,
+        ),
         (LeafFn::Prefix(Name::new(alloc, b"")?), Kind::Int, None),
         (LeafFn::Strip(Name::new(alloc, b"")?), Kind::Bool, None),
         (LeafFn::Lower, Kind::Map, None),
@@ -293,7 +297,7 @@ fn a_constant_replaces_any_leaf(rt: HostRuntime) -> Result<(), Fail> {
         Const::NoLongs,
     ] {
         let function = LeafFn::Const(Const::Short(7));
-        let made = applied(alloc, &function, leaf.tree())?;
+        let made = applied(alloc, &function, leaf.tree(alloc)?)?;
         assert_eq!(rt; made.and_then(number_of), Some((Kind::Short, 7)));
     }
     Ok(())

@@ -110,7 +110,7 @@ impl Builder {
         self.made.push(made).expect(rt, MEMORY);
     }
 
-    /// One word: a leaf kind or `any`; `list`, which takes a template; `or`, which takes two; `.x` and `?x` for a field, which has to be or may be there;
+    /// One word: a leaf kind or `any`; `p`, a point at the type `p`; `list`, which takes a template; `or`, which takes two; `.x` and `?x` for a field, which has to be or may be there;
     /// `=ts`, which makes the fields before it those of the case `s` of the tag `t`; `kept`, which keeps that choice's unknown tags; `open` and `closed`,
     /// which make a record of what stands before them.
     fn word(&mut self, rt: &impl Abort, alloc: Global, word: &[u8]) {
@@ -118,6 +118,7 @@ impl Builder {
             b"whole" => self.push(rt, Template::Leaf(Kind::Whole)),
             b"text" => self.push(rt, Template::Leaf(Kind::Text)),
             b"any" => self.push(rt, Template::Any),
+            b"p" => self.push(rt, Template::Point(name_of(rt, alloc, b"p"))),
             b"list" => self.list(rt, alloc),
             b"or" => self.sum(rt, alloc),
             b"kept" => self.keep_unknown(rt),

@@ -25,7 +25,7 @@ use std::sync::ledger::{Blank, Ledger};
 fn applied<'a>(
     rt: &impl Abort,
     alloc: Global,
-    function: &'a FieldFn,
+    function: &FieldFn,
     on: &Record,
     value: Value<'a>,
 ) -> Option<Value<'a>>
@@ -83,25 +83,51 @@ fn root_record<'f>(rt: &impl Abort, family: &'f Family) -> &'f Record
     panic!(rt; "no record")
 }
 
-/// What the function makes of the tree, which is read by the family's root; `-` where it doesn't fit the root's record.
+/// The root's record, and the tree read as a value of it.
+fn read_root<'f, 'a>(
+    rt: &impl Abort,
+    alloc: Global,
+    family: &'f Family,
+    tree: Tree<'a>,
+) -> (&'f Record, Value<'a>)
+    requires known { IsTrue (is_named family.now family.now.root) }
+    requires form { is_in_form family.now.form (plain_of tree) ≡ true }
+    ensures { Shape (record_of result.0.now) (typed_of result.1) }
+{
+    let record = root_record(rt, family);
+    let value = mig_codec::read(alloc, family, family.root(), tree).expect(rt, "an unfit tree");
+    (record, value)
+}
+
+/// The value's tree as a text; `-` where there is none.
+fn shown<'a>(rt: &impl Abort, alloc: Global, value: Option<Value<'a>>) -> Vec<u8> {
+    let mut text = Vec::new(alloc);
+    match value {
+        Some(value) => show(rt, alloc, &written(rt, alloc, value), 9, &mut text),
+        None => text.push(b'-').expect(rt, MEMORY),
+    }
+    text
+}
+
+/// What the function, and then the second, if there is one, makes of the tree, which is read by the family's root; `-` where it doesn't fit.
 fn outcome<'a>(
     rt: &impl Abort,
     alloc: Global,
     family: &Family,
-    function: &'a FieldFn,
+    function: &FieldFn,
+    second: Option<&FieldFn>,
     tree: Tree<'a>,
 ) -> Vec<u8>
     requires known { IsTrue (is_named family.now family.now.root) }
     requires form { is_in_form family.now.form (plain_of tree) ≡ true }
 {
-    let record = root_record(rt, family);
-    let value = mig_codec::read(alloc, family, family.root(), tree).expect(rt, "an unfit tree");
-    let mut text = Vec::new(alloc);
-    match applied(rt, alloc, function, record, value) {
-        Some(value) => show(rt, alloc, &written(rt, alloc, value), 9, &mut text),
-        None => text.push(b'-').expect(rt, MEMORY),
-    }
-    text
+    let (record, value) = read_root(rt, alloc, family, tree);
+    let Some(second) = second else {
+        return shown(rt, alloc, applied(rt, alloc, function, record, value));
+    };
+    let next = function.target(alloc, record).expect(rt, "no record");
+    let value = function.apply(alloc, record, value).expect(rt, MEMORY);
+    shown(rt, alloc, applied(rt, alloc, second, &next, value))
 }
 
 /// The family is of JSON, and its root one of its types.
@@ -113,12 +139,13 @@ fn check_family(rt: &impl Abort, family: &Family)
     assert!(rt; family.is_named(family.root()));
 }
 
-/// The function makes this of the JSON text.
+/// The function, and then the second, if there is one, makes this of the JSON text.
 fn check_text(
     rt: &impl Abort,
     alloc: Global,
     family: &Family,
     function: &FieldFn,
+    second: Option<&FieldFn>,
     text: &str,
     want: &str,
 ) {
@@ -126,7 +153,7 @@ fn check_text(
     let document = mig_json::parse(alloc, text.as_bytes()).expect(rt, "no JSON");
     let tree = document.tree(alloc).expect(rt, MEMORY);
     let copy = function.copy(alloc).expect(rt, MEMORY);
-    let found = outcome(rt, alloc, family, &copy, tree);
+    let found = outcome(rt, alloc, family, &copy, second, tree);
     assert_eq!(rt; found.as_slice(), want.as_bytes());
 }
 
@@ -135,7 +162,7 @@ fn check(rt: &impl Abort, alloc: Global, table: &[(&str, &str, &str, &str, &str)
     for (record, literal, words, text, want) in table {
         let family = family_of(rt, alloc, template(rt, alloc, record));
         let function = function(rt, alloc, literal, words);
-        check_text(rt, alloc, &family, &function, text, want);
+        check_text(rt, alloc, &family, &function, None, text, want);
     }
 }
 
@@ -183,6 +210,7 @@ fn names_change(rt: HostRuntime) {
                 r#"{"x":1,"y":[],}"#,
             ),
             ("whole .x open", "", "add x", r#"{"x":1}"#, "-"),
+            ("whole .x open", "", "addunclear y", r#"{"x":1}"#, "-"),
         ],
     );
 }
@@ -366,7 +394,120 @@ fn choices_change(rt: HostRuntime) {
                 r#"{"t":"q","y":3}"#,
                 r#"{"t":"q","y":3,}"#,
             ),
+            ("=ta closed", "", "addcaseunclear b", r#"{"t":"a"}"#, "-"),
         ],
+    );
+}
+
+/// Each function in the scope of a case, where the tag is the case's literal and where it is another.
+#[test]
+fn functions_act_on_a_case(rt: HostRuntime) {
+    let leaf = "whole .x =ta whole .x =tb open";
+    let may = "whole ?x =ta whole ?x =tb open";
+    let sum = "whole text or .x =ta whole .x =tb open";
+    let inner = "whole .q open .x =ta whole .x =tb open";
+    let given = r#"{"t":"a","x":1}"#;
+    let other = r#"{"t":"b","x":1}"#;
+    let stays = r#"{"t":"b","x":1,}"#;
+    check(
+        &rt,
+        rt.alloc(),
+        &[
+            (leaf, "a", "drop x", given, r#"{"t":"a",}"#),
+            (leaf, "a", "drop x", other, stays),
+            (leaf, "a", "add y", given, r#"{"t":"a","x":1,"y":4,}"#),
+            (leaf, "a", "add y", other, stays),
+            (
+                leaf,
+                "a",
+                "learn y",
+                r#"{"t":"a","x":1,"y":2}"#,
+                r#"{"t":"a","x":1,}"#,
+            ),
+            (
+                leaf,
+                "a",
+                "learn y",
+                r#"{"t":"b","x":1,"y":2}"#,
+                r#"{"t":"b","x":1,"y":2,}"#,
+            ),
+            (leaf, "a", "forget x", given, r#"{"t":"a","x":1,}"#),
+            (leaf, "a", "forget x", other, stays),
+            (may, "a", "default x", r#"{"t":"a"}"#, r#"{"t":"a","x":4,}"#),
+            (may, "a", "default x", r#"{"t":"b"}"#, r#"{"t":"b",}"#),
+            (leaf, "a", "maybe x", given, r#"{"t":"a","x":1,}"#),
+            (leaf, "a", "maybe x", other, stays),
+            (leaf, "a", "map x", given, r#"{"t":"a","x":2,}"#),
+            (leaf, "a", "map x", other, stays),
+            (leaf, "a", "nest y x", given, r#"{"t":"a","y":{"x":1,},}"#),
+            (leaf, "a", "nest y x", other, stays),
+            (
+                inner,
+                "a",
+                "unnest x",
+                r#"{"t":"a","x":{"q":3}}"#,
+                r#"{"q":3,"t":"a",}"#,
+            ),
+            (inner, "a", "unnest x", other, stays),
+            (leaf, "a", "wrap x", given, r#"{"t":"a","x":[1,],}"#),
+            (leaf, "a", "wrap x", other, stays),
+            (sum, "a", "unify x", given, r#"{"t":"a","x":"1",}"#),
+            (sum, "a", "unify x", other, stays),
+        ],
+    );
+}
+
+#[test]
+fn absent_fields_stay_absent(rt: HostRuntime) {
+    check(
+        &rt,
+        rt.alloc(),
+        &[
+            ("whole ?x open", "", "map x", r#"{"y":1}"#, r#"{"y":1,}"#),
+            ("whole ?x open", "", "wrap x", r#"{"y":1}"#, r#"{"y":1,}"#),
+            (
+                "whole text or ?x open",
+                "",
+                "unify x",
+                r#"{"y":1}"#,
+                r#"{"y":1,}"#,
+            ),
+            (
+                "whole .q open ?p open",
+                "",
+                "unnest p",
+                r#"{"q":9,"z":1}"#,
+                r#"{"z":1,}"#,
+            ),
+        ],
+    );
+}
+
+/// What was forgotten is learned again with the trees of named types in it, which nothing opens.
+#[test]
+fn a_forgotten_field_is_learned(rt: HostRuntime) {
+    let alloc = rt.alloc();
+    let family = family_of(&rt, alloc, template(&rt, alloc, "p ?x whole ?n open"));
+    let forget = function(&rt, alloc, "", "forget x");
+    let learn = function(&rt, alloc, "", "learnany x");
+    check_text(
+        &rt,
+        alloc,
+        &family,
+        &forget,
+        Some(&learn),
+        r#"{"n":1,"x":{"n":2,"x":{"k":3}}}"#,
+        r#"{"n":1,"x":{"n":2,"x":{"k":3,},},}"#,
+    );
+    let number = function(&rt, alloc, "", "learn x");
+    check_text(
+        &rt,
+        alloc,
+        &family,
+        &forget,
+        Some(&number),
+        r#"{"n":1,"x":{"n":2}}"#,
+        r#"{"n":1,}"#,
     );
 }
 

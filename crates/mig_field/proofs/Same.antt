@@ -94,12 +94,4 @@ told true V W h = sym (ap (same_template V) (sym (h.0 refl)) ∙ itself V)
 told false V W h = let same = same_is V W in let apart = h.1 in grind (arith, same, apart)
 
 pub decides : (V W : Template) → IsTrue (same_template V W) ↔ (V ≡ W)
-decides V W = (λ h. same_is V W (passes (same_template V W) h), λ e. subst (λ X. IsTrue (same_template V X)) e (true_holds (same_template V V) (itself V)))
-  where
-    passes : (b : Bool) → IsTrue b → b ≡ true
-    passes true h = refl
-    passes false h = absurd h
-
-    true_holds : (b : Bool) → b ≡ true → IsTrue b
-    true_holds true e = tt
-    true_holds false e = absurd (let no : false ≡ true = e in cc)
+decides V W = (same_is V W, λ e. subst (λ X. same_template V X ≡ true) e (itself V))

@@ -12,10 +12,10 @@ use Rattle.mig_field.specs.FieldFn.{common, retag, add_case}
 use Rattle.mig_field.specs.NewRecord.{new_by, with_cases, can_be_settled, retagged, with_case, FieldType}
 use Rattle.mig_func.specs.New.{with_more, are_clear}
 use Rattle.mig_func.proofs.Tests.{any_never}
-use Rattle.mig_model.proofs.Edits.{under-without, ascends-without}
+use Rattle.mig_model.proofs.Edits.{under-without, ascends-without, order_all}
 use Rattle.mig_model.proofs.Options.{none-there}
 use Rattle.mig_action.proofs.Distinct.{case_once, case_ascends_in}
-use Rattle.mig_func.proofs.Offers.{without-none, order_all}
+use Rattle.mig_func.proofs.Offers.{without-none}
 use Rattle.mig_func.proofs.Rebuilt.{cases_are, order_itself, more_ordered, more_made, more_twice, any_without, all_without}
 use Rattle.mig_model.proofs.Rising.{nothing_ascends}
 use Rattle.mig_template.proofs.Names.{first_once}

@@ -18,8 +18,8 @@ use Rattle.mig_field.specs.FieldFn.{nest, unnest}
 use Rattle.mig_field.specs.NewRecord.{FieldType, Scoped, can_nest, is_some_name, unnested, unnest_slot, inner_fields}
 use Rattle.mig_func.specs.New.{NoneTaken, Offers, has_clash}
 use Rattle.mig_func.proofs.Tests.{any_either, any_alike, not_all}
-use Rattle.mig_model.proofs.Edits.{under-without, under-others, ascends-without, ascends-others, all_names}
-use Rattle.mig_func.proofs.Offers.{new_one, new_same, none_taken, taken_not, clash_is, order_all, offered, still_has}
+use Rattle.mig_model.proofs.Edits.{under-without, under-others, ascends-without, ascends-others, all_names, order_all}
+use Rattle.mig_func.proofs.Offers.{new_one, new_same, none_taken, taken_not, clash_is, offered, still_has}
 use Rattle.mig_model.proofs.Bools.{split_or}
 use Rattle.mig_model.proofs.SameNames.{same_name_is}
 

@@ -19,7 +19,7 @@ use Rattle.mig_field.specs.FieldFn.{Fill, fill_template, rename, drop, add, lear
 use Rattle.mig_field.specs.NewRecord.{FieldType, is_clear, can_be_learned, learned, at_field}
 use Rattle.mig_func.specs.New.{has_clash, IsNew, NoneTaken, Offers}
 use Rattle.mig_func.proofs.Tests.{neither, any_either, any_alike, any_swap}
-use Rattle.mig_model.proofs.Edits.{under-without, under-filter, ascends-filter, under-put, put_without, ascends-put, ascends-put_all, ascends-without, same_under, among_is, none_of, none_among, put_all-permutes}
+use Rattle.mig_model.proofs.Edits.{under-without, under-filter, ascends-filter, under-put, put_without, ascends-put, ascends-put_all, ascends-without, same_under, among_is, none_of, none_among, put_all-permutes, order_all}
 use Rattle.std.proofs.Math.Bool.{or-false}
 use Rattle.std.proofs.lemmas.Bool.{not-true}
 use Rattle.mig_model.proofs.Bools.{split_and}
@@ -75,12 +75,6 @@ clash_is taken base ads s free once =
     ∙ (λ i. twice i || any i)
     ∙ any_either (is_among K) taken L
     ∙ any_alike (λ n. is_among K n || taken n) (λ n. has n base || taken n) L (λ n. ap (λ b. b || taken n) (among_is base n))
-
-pub order_all : {A : Type 0} (base ads : List (List ℕ × A)) → Ascends base → has_twice (keys_of ads) ≡ false → list_any (λ n. has n base) (keys_of ads) ≡ false → IsOrderOf (base ++ ads) (put_all ads base)
-order_all base ads s once apart = record {
-  same = IsPermutation-trans (base ++ ads) (ads ++ base) (put_all ads base) (IsPermutation-append_comm base ads) (put_all-permutes ads base once apart);
-  ascend = ascends-put_all ads base s;
-}
 
 pub offered : (b : Bool) (fs es : List Field) (taken : List ℕ → Bool) → has_clash taken es ≡ not b → (b ≡ true → IsOrderOf es fs) → IsNew (if_so b fs) taken es
 offered true fs es taken h o = record { made = λ k. (fs, refl, o refl); none = λ k. absurd (true≢false (sym k ∙ h)) }

@@ -15,8 +15,8 @@ use Rattle.mig_template.proofs.OneOrder.{one_record}
 use Rattle.mig_template.proofs.Sorted.{once_if_ascends}
 use Rattle.mig_field.specs.FieldFn.{common, in_case}
 use Rattle.mig_func.specs.New.{HasFields, has_clash, taken_by_rest, with_more}
-use Rattle.mig_model.proofs.Edits.{ascends-without}
-use Rattle.mig_func.proofs.Offers.{order_all, gone, put-without}
+use Rattle.mig_model.proofs.Edits.{ascends-without, order_all}
+use Rattle.mig_func.proofs.Offers.{gone, put-without}
 use Rattle.mig_func.proofs.Scopes.{case_clash}
 use Rattle.std.proofs.Math.Bool.{or-false}
 use Rattle.mig_model.proofs.Bools.{split_or}

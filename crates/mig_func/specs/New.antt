@@ -1,5 +1,5 @@
 -- The new fields of a scope, as a list in any order, and when they are some: none of their names is there twice or taken outside the scope.
-use Rattle.std.specs.Prelude.{◌≡◌, ℕ, List, [], ◌∷◌, ◌++◌, Bool, true, false, ◌||◌, Option, Some, None}
+use Rattle.std.specs.Prelude.{◌≡◌, ℕ, List, [], ◌∷◌, ◌++◌, Bool, true, false, ◌||◌, Option, Some, None, IfSome, IfNone}
 use Rattle.std.specs.List.{list_any, list_all}
 use Rattle.std.specs.Map.{keys_of}
 use Rattle.mig_model.specs.declared.rest.Rest.{Rest}
@@ -71,3 +71,8 @@ is_about_cases op = false
 -- the sums in all of the fields are told apart
 abbrev pub are_clear : List Field → Bool
 are_clear fs = list_all (λ f. is_clear f.1.1) fs
+
+-- the fields in the order of their names, where no two names are equal
+pub record AreOrdered (fs : List Field) (o : Option (List Field)) : Type 0 where
+  pub some : IfSome o (IsOrderOf fs)
+  pub none : IfNone o (has_twice (keys_of fs) ≡ true)

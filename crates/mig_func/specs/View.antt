@@ -33,7 +33,7 @@ field_op_of (ops.Unnest y) = model.unnest y
 field_op_of (ops.Wrap x) = model.wrap x
 field_op_of (ops.Unify x f g) = model.unify x (leaf_fn_of f) (leaf_fn_of g)
 field_op_of (ops.Retag a b) = model.retag a b
-field_op_of (ops.AddCase b fs) = model.add_case b (map field_of fs.items)
+field_op_of (ops.AddCase b fs) = model.add_case b fs
 
 abbrev pub field_fn_of : FieldFn → model.FieldFn
 field_fn_of f = record { scope = scope_of f.scope; op = field_op_of f.op }

@@ -36,13 +36,13 @@ use mig_value::{RecValue, Slots, Value, Values};
 use std::alloc::Global;
 
 impl Fill {
-    /// What a field gets. It borrows the constant.
-    fn value<'a>(&'a self, alloc: Global) -> Value<'a>
-        ensures { typed_of result ≡ fill_value (fill_of self.now) }
+    /// What a field gets.
+    fn value<'a>(&self, alloc: Global) -> Result<Value<'a>, Memory>
+        ensures { IfOk result (λ v. typed_of v ≡ fill_value (fill_of self.now)) }
     {
         match self {
-            Fill::Const(constant) => Value::Atom(constant.tree()),
-            Fill::EmptyList(_) => Value::List(Values::new(Vec::new(alloc))),
+            Fill::Const(constant) => Ok(Value::Atom(constant.tree(alloc)?)),
+            Fill::EmptyList(_) => Ok(Value::List(Values::new(Vec::new(alloc)))),
         }
     }
 }
@@ -118,7 +118,7 @@ fn unnest_field<'a>(
 impl FieldOp {
     /// What is done to the slots of a scope that has these fields.
     fn move_slots<'a>(
-        &'a self,
+        &self,
         alloc: Global,
         fields: &Fields,
         moving: Moving<'a>,
@@ -128,12 +128,18 @@ impl FieldOp {
         ensures { IfOk result (λ m. moving_of m ≡ move (field_op_of self.now) fields.now (moving_of moving.entry)) }
     {
         match self {
-            FieldOp::Rename(from, to) => rename(moving, from, to),
+            FieldOp::Rename(from, to) => rename(alloc, moving, from, to),
             FieldOp::Drop(name) => Ok(drop_field(moving, name)),
-            FieldOp::Add(name, fill) => add(moving, name, fill.value(alloc)),
+            FieldOp::Add(name, fill) => {
+                let value = fill.value(alloc)?;
+                add(alloc, moving, name, value)
+            }
             FieldOp::Learn(name, kind) => learn(moving, name, *kind),
             FieldOp::Forget(name) => forget(moving, name),
-            FieldOp::Default(name, fill) => fill_absent(moving, name, fill.value(alloc)),
+            FieldOp::Default(name, fill) => {
+                let value = fill.value(alloc)?;
+                fill_absent(alloc, moving, name, value)
+            }
             FieldOp::Map(name, function) => map_leaf(alloc, moving, name, function),
             FieldOp::Nest(names, name) => nest(alloc, moving, names, name),
             FieldOp::Unnest(name) => unnest_field(alloc, moving, name, fields),
@@ -147,7 +153,7 @@ impl FieldOp {
 
     /// A record value after a function on its common fields.
     fn apply_common<'a>(
-        &'a self,
+        &self,
         alloc: Global,
         fields: &Fields,
         given: RecValue<'a>,
@@ -169,7 +175,7 @@ impl FieldOp {
 
     /// A record value of the record after a function on its common fields.
     fn apply_fields<'a>(
-        &'a self,
+        &self,
         alloc: Global,
         on: &Record,
         given: RecValue<'a>,
@@ -186,7 +192,7 @@ impl FieldOp {
 
     /// A record value after a function on its common fields or its cases.
     fn apply_whole<'a>(
-        &'a self,
+        &self,
         alloc: Global,
         on: &Record,
         given: RecValue<'a>,
@@ -222,7 +228,7 @@ impl FieldOp {
 
     /// A record value after a function on the fields of its case.
     fn apply_cased<'a>(
-        &'a self,
+        &self,
         alloc: Global,
         fields: &Fields,
         given: RecValue<'a>,
@@ -244,9 +250,9 @@ impl FieldOp {
 }
 
 impl FieldFn {
-    /// A record value after the function. Its texts and trees move; what is new borrows from the function.
+    /// A record value after the function. Its texts and trees move; what is new is its own.
     fn apply_to<'a>(
-        &'a self,
+        &self,
         alloc: Global,
         on: &Record,
         given: RecValue<'a>,
@@ -271,9 +277,9 @@ impl FieldFn {
         }
     }
 
-    /// What a value of the record becomes. It moves what the value has, and enters no node; what is new borrows from the function.
+    /// What a value of the record becomes. It moves what the value has, and enters no node; what is new is the value's own.
     pub fn apply<'a>(
-        &'a self,
+        &self,
         alloc: Global,
         on: &Record,
         value: Value<'a>,

@@ -3,10 +3,8 @@ ghost use Rattle.std.specs.Prelude.{◌≡◌, IfOk, map};
 ghost use Rattle.mig_template.specs.View.{field_of};
 ghost use Rattle.mig_func.specs.View.{scope_of, field_op_of, field_fn_of};
 
-use crate::copies::copy_fields;
-use crate::{Fill, Names};
+use crate::{CaseFields, Fill, Names};
 use mig_leaf::LeafFn;
-use mig_template::Field;
 use mig_tree::{Kind, Memory, Name};
 use std::alloc::Global;
 
@@ -49,7 +47,7 @@ pub enum FieldOp {
     /// The case of the first literal has the second.
     Retag(Name, Name),
     /// A case of the literal, with these fields in any order.
-    AddCase(Name, Vec<Field>),
+    AddCase(Name, CaseFields),
 }
 
 // Written by hand, since a derived one is done in place: each caller would prove a branch for each variant of each part.
@@ -132,7 +130,7 @@ impl FieldOp {
             }
             FieldOp::Retag(from, to) => FieldOp::Retag(from.copy(alloc)?, to.copy(alloc)?),
             FieldOp::AddCase(literal, fields) => {
-                FieldOp::AddCase(literal.copy(alloc)?, copy_fields(alloc, fields)?)
+                FieldOp::AddCase(literal.copy(alloc)?, fields.copy(alloc)?)
             }
         })
     }

@@ -2,6 +2,7 @@
 #![tactic(auto)]
 
 mod apply;
+mod case_fields;
 mod clear;
 mod copies;
 mod fault;
@@ -16,6 +17,7 @@ mod settling;
 mod slots;
 mod target;
 
+pub use case_fields::CaseFields;
 pub use fault::FuncFault;
 pub use fill::Fill;
 pub use function::{FieldFn, FieldOp, Scope};

@@ -1,15 +1,14 @@
 //! Record values whose tag gets another literal, or that were kept with a tag which is now a case's.
-ghost use Rattle.std.specs.Prelude.{◌≡◌, [], false, map, IfOk};
+ghost use Rattle.std.specs.Prelude.{◌≡◌, false, IfOk};
 ghost use Rattle.std.specs.Map.{keys_of};
-ghost use Rattle.mig_model.specs.Names.{has_twice, put_all};
-ghost use Rattle.mig_template.specs.View.{field_of};
+ghost use Rattle.mig_model.specs.Names.{has_twice};
 ghost use Rattle.mig_value.specs.Parts.{IsRecordValue};
 ghost use Rattle.mig_action.specs.Moves.{settle_case, is_of_case};
 ghost use Rattle.mig_func.specs.Settled.{with_literal, retagged_value, cased_value};
 
-use crate::copies::copy_fields;
+use crate::CaseFields;
 use mig_slots::settle;
-use mig_template::{Field, Fields, Record, RecordFault, Rest};
+use mig_template::{Fields, Rest};
 use mig_tree::{Memory, Name, Text};
 use mig_value::{RecValue, Slots};
 use std::alloc::Global;
@@ -24,10 +23,10 @@ pub fn has_literal(given: &RecValue, literal: &Name) -> bool
     }
 }
 
-/// The record value with another literal in its tag, which it borrows.
+/// The record value with another literal in its tag.
 fn with_literal<'a>(
     alloc: Global,
-    literal: &'a Name,
+    literal: &Name,
     given: RecValue<'a>,
 ) -> Result<RecValue<'a>, Memory>
     requires { IsRecordValue (with_literal literal.now given) }
@@ -37,7 +36,7 @@ fn with_literal<'a>(
     let tag = match tag {
         Some((name, found)) => {
             drop(found);
-            Some((name, Text::lent(literal.bytes())))
+            Some((name, Text::copied(alloc, literal.bytes())?))
         }
         None => None,
     };
@@ -66,7 +65,7 @@ pub fn retag<'a>(
     fields: &Fields,
     openness: Rest,
     from: &Name,
-    to: &'a Name,
+    to: &Name,
     given: RecValue<'a>,
 ) -> Result<RecValue<'a>, Memory>
     requires { IsRecordValue (retagged_value from.now to.now fields.now openness given) }
@@ -81,38 +80,23 @@ pub fn retag<'a>(
     Ok(given)
 }
 
-/// The fields in the order of their names.
-fn ordered(alloc: Global, fields: &[Field]) -> Result<Fields, Memory>
-    requires { has_twice (keys_of (map field_of fields.now)) ≡ false }
-    ensures { IfOk result (λ fs. fs ≡ put_all (map field_of fields.now) []) }
-{
-    let list = copy_fields(alloc, fields)?;
-    match Record::new(alloc, list, None, Rest::Closed) {
-        Ok(record) => {
-            let (fields, choice, _) = record.into_parts();
-            drop(choice);
-            Ok(fields)
-        }
-        Err(RecordFault::Memory) => Err(Memory),
-        Err(_) => unreachable!(),
-    }
-}
-
 /// The record value after the literal became a case of these fields: one that was kept with it is given them.
 pub fn give_case<'a>(
     alloc: Global,
-    fields: &[Field],
+    fields: &CaseFields,
     openness: Rest,
     literal: &Name,
     given: RecValue<'a>,
 ) -> Result<RecValue<'a>, Memory>
-    requires once { has_twice (keys_of (map field_of fields.now)) ≡ false }
-    requires parts { IsRecordValue (cased_value literal.now (map field_of fields.now) openness given) }
-    ensures { IfOk result (λ w. w ≡ cased_value literal.now (map field_of fields.now) openness given.entry) }
+    requires once { has_twice (keys_of fields.now) ≡ false }
+    requires parts { IsRecordValue (cased_value literal.now fields.now openness given) }
+    ensures { IfOk result (λ w. w ≡ cased_value literal.now fields.now openness given.entry) }
 {
     if !has_literal(&given, literal) {
         return Ok(given);
     }
-    let fields = ordered(alloc, fields)?;
-    settled(alloc, &fields, openness, given)
+    match fields.ordered() {
+        Some(fields) => settled(alloc, fields, openness, given),
+        None => unreachable!(),
+    }
 }

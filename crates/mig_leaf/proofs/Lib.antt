@@ -1,3 +1,4 @@
 pub mod Decimal
 pub mod Numbers
 pub mod KindOut
+pub mod Tables

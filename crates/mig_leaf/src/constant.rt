@@ -50,11 +50,11 @@ impl Const {
         }
     }
 
-    /// The constant as a tree, which lends a text's bytes.
-    pub fn tree(&self) -> Tree<'_>
-        ensures { plain_of result ≡ const_tree (const_of self.now) }
+    /// The constant as a tree, which has a text's bytes of its own.
+    pub fn tree<'a>(&self, alloc: Global) -> Result<Tree<'a>, Memory>
+        ensures { IfOk result (λ t. plain_of t ≡ const_tree (const_of self.now)) }
     {
-        match self {
+        Ok(match self {
             Const::Byte(number) => Tree::Byte(*number),
             Const::Short(number) => Tree::Short(*number),
             Const::Int(number) => Tree::Int(*number),
@@ -62,13 +62,13 @@ impl Const {
             Const::Whole(number) => Tree::Whole(*number),
             Const::Float(bits) => Tree::Float(*bits),
             Const::Double(bits) => Tree::Double(*bits),
-            Const::Text(text) => Tree::Text(Text::lent(text.bytes())),
+            Const::Text(text) => Tree::Text(Text::copied(alloc, text.bytes())?),
             Const::Bool(value) => Tree::Bool(*value),
             Const::Null => Tree::Null,
             Const::NoBytes => Tree::Bytes(NOTHING),
             Const::NoInts => Tree::Ints(NOTHING),
             Const::NoLongs => Tree::Longs(NOTHING),
-        }
+        })
     }
 
     /// An equal constant.

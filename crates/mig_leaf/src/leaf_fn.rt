@@ -6,9 +6,9 @@ ghost use Rattle.mig_model.specs.Const.{const_kind, const_tree};
 ghost use Rattle.mig_model.specs.Leaf.{is_whole_number, to_text, shown, read_or, leaf_out, leaf_value};
 ghost use Rattle.mig_leaf.specs.View.{const_of, leaf_fn_of};
 
-use crate::Const;
+use crate::{Const, Table};
 use crate::number::{clamped, decimal, has_range, is_whole_number, number_of, spelled};
-use crate::text::{copy_pairs, lowered, prefixed, stripped, text_of, translated};
+use crate::text::{lowered, prefixed, stripped, text_of, translated};
 use mig_tree::{Kind, Memory, Name, Text, Tree};
 use std::alloc::Global;
 
@@ -30,7 +30,7 @@ pub enum LeafFn {
     /// The whole number that a text spells in plain decimal, where it is of the constant's kind; else the constant.
     OfText(Const),
     /// The right side of the first pair whose left side is the text; else the text.
-    Table(Vec<(Name, Name)>),
+    Table(Table),
     /// This and then the text, where that has at most 65,535 bytes; else the text.
     Prefix(Name),
     /// The text without this at its front; else the text.
@@ -44,7 +44,7 @@ impl Drop for LeafFn {
     fn drop(self) {
         match self {
             LeafFn::Const(constant) | LeafFn::OfText(constant) => drop(constant),
-            LeafFn::Table(pairs) => drop(pairs),
+            LeafFn::Table(table) => drop(table),
             LeafFn::Prefix(text) | LeafFn::Strip(text) => drop(text),
             LeafFn::Plus(_)
             | LeafFn::Times(_)
@@ -64,11 +64,11 @@ fn is_shown(kind: Kind) -> bool
 }
 
 /// The constant in place of the tree.
-fn in_place_of<'a>(tree: Tree<'a>, constant: &'a Const) -> Tree<'a>
-    ensures { plain_of result ≡ const_tree (const_of constant.now) }
+fn in_place_of<'a>(alloc: Global, tree: Tree<'a>, constant: &Const) -> Result<Tree<'a>, Memory>
+    ensures { IfOk result (λ t. plain_of t ≡ const_tree (const_of constant.now)) }
 {
     drop(tree);
-    constant.tree()
+    constant.tree(alloc)
 }
 
 /// The number in plain decimal, the truth value, or the text as it is.
@@ -85,14 +85,14 @@ fn shown<'a>(alloc: Global, tree: Tree<'a>) -> Result<Text<'a>, Memory>
 }
 
 /// The number that the text spells as a tree of the constant's kind; else the constant.
-fn read_or<'a>(constant: &'a Const, text: Text<'a>) -> Tree<'a>
+fn read_or<'a>(alloc: Global, constant: &Const, text: Text<'a>) -> Result<Tree<'a>, Memory>
     requires { IsTrue (is_whole_number (const_kind (const_of constant.now))) }
-    ensures { plain_of result ≡ read_or (const_of constant.now) text.entry }
+    ensures { IfOk result (λ t. plain_of t ≡ read_or (const_of constant.now) text.entry) }
 {
     let kind = constant.kind();
     match spelled(kind, text.bytes()) {
-        Some(number) => clamped(kind, number),
-        None => constant.tree(),
+        Some(number) => Ok(clamped(kind, number)),
+        None => constant.tree(alloc),
     }
 }
 
@@ -121,8 +121,8 @@ impl LeafFn {
 
     /// What becomes of a leaf that the function fits.
     ///
-    /// A text that stays is handed back, and one that comes from a constant or a table is lent by the function. A table is gone through from its first pair on.
-    pub fn apply<'a>(&'a self, alloc: Global, tree: Tree<'a>) -> Result<Tree<'a>, Memory>
+    /// A text that stays is handed back; what is new is the tree's own. A text is found in a table in log n.
+    pub fn apply<'a>(&self, alloc: Global, tree: Tree<'a>) -> Result<Tree<'a>, Memory>
         requires { IsTrue (is_some (leaf_out (leaf_fn_of self.now) (kind_of (plain_of tree)))) }
         ensures value { IfOk result (λ t. plain_of t ≡ leaf_value (leaf_fn_of self.now) (plain_of tree.entry)) }
         ensures kind { IfOk result (λ t. leaf_out (leaf_fn_of self.now) (kind_of (plain_of tree.entry))
@@ -130,14 +130,14 @@ impl LeafFn {
     {
         let kind = tree.kind();
         match self {
-            LeafFn::Const(constant) => Ok(in_place_of(tree, constant)),
+            LeafFn::Const(constant) => Ok(in_place_of(alloc, tree, constant)?),
             LeafFn::Plus(addend) => Ok(clamped(kind, number_of(tree).saturating_add(*addend))),
             LeafFn::Times(factor) => Ok(clamped(kind, number_of(tree).saturating_mul(*factor))),
             LeafFn::Clamp(low, high) => Ok(clamped(kind, number_of(tree).clamp(*low, *high))),
             LeafFn::To(to) => Ok(clamped(*to, number_of(tree))),
             LeafFn::ToText => Ok(Tree::Text(shown(alloc, tree)?)),
-            LeafFn::OfText(constant) => Ok(read_or(constant, text_of(tree))),
-            LeafFn::Table(pairs) => Ok(Tree::Text(translated(pairs, text_of(tree)))),
+            LeafFn::OfText(constant) => Ok(read_or(alloc, constant, text_of(tree))?),
+            LeafFn::Table(table) => Ok(Tree::Text(translated(alloc, table, text_of(tree))?)),
             LeafFn::Prefix(prefix) => Ok(Tree::Text(prefixed(alloc, prefix, text_of(tree))?)),
             LeafFn::Strip(prefix) => Ok(Tree::Text(stripped(alloc, prefix, text_of(tree))?)),
             LeafFn::Lower => Ok(Tree::Text(lowered(alloc, text_of(tree))?)),
@@ -156,7 +156,7 @@ impl LeafFn {
             LeafFn::To(kind) => LeafFn::To(*kind),
             LeafFn::ToText => LeafFn::ToText,
             LeafFn::OfText(constant) => LeafFn::OfText(constant.copy(alloc)?),
-            LeafFn::Table(pairs) => LeafFn::Table(copy_pairs(alloc, pairs)?),
+            LeafFn::Table(table) => LeafFn::Table(table.copy(alloc)?),
             LeafFn::Prefix(prefix) => LeafFn::Prefix(prefix.copy(alloc)?),
             LeafFn::Strip(prefix) => LeafFn::Strip(prefix.copy(alloc)?),
             LeafFn::Lower => LeafFn::Lower,

@@ -4,7 +4,9 @@
 mod constant;
 mod leaf_fn;
 mod number;
+mod table;
 mod text;
 
 pub use constant::Const;
 pub use leaf_fn::LeafFn;
+pub use table::{Table, copy_pairs};

@@ -1,9 +1,10 @@
 //! Texts that leaf functions make.
-ghost use Rattle.std.specs.Prelude.{◌≡◌, IfOk, map, option_map, unwrap_or};
+ghost use Rattle.std.specs.Prelude.{◌≡◌, IfOk, map, unwrap_or};
 ghost use Rattle.mig_model.specs.Kinds.{kind_of};
 ghost use Rattle.mig_tree.specs.View.{plain_of};
 ghost use Rattle.mig_model.specs.Leaf.{text_of, looked_up, prefixed, stripped, lower_byte};
 
+use crate::Table;
 use mig_tree::{Kind, Memory, Name, Text, Tree};
 use std::alloc::Global;
 
@@ -21,21 +22,13 @@ pub fn text_of<'a>(tree: Tree<'a>) -> Text<'a>
     }
 }
 
-/// The right side of the first pair whose left side is the text.
-pub fn looked_up<'a>(pairs: &'a [(Name, Name)], text: &[u8]) -> Option<&'a [u8]>
-    ensures { option_map (λ s. s.now) result ≡ looked_up pairs.now text.now }
+/// What stands for the text in the table; else the text.
+pub fn translated<'a>(alloc: Global, table: &Table, text: Text<'a>) -> Result<Text<'a>, Memory>
+    ensures { IfOk result (λ t. t ≡ unwrap_or (looked_up table.now text.entry) text.entry) }
 {
-    let pair = pairs.iter().find(|pair| pair.0.bytes() == text)?;
-    Some(pair.1.bytes())
-}
-
-/// What stands for the text in the pairs, lent; else the text.
-pub fn translated<'a>(pairs: &'a [(Name, Name)], text: Text<'a>) -> Text<'a>
-    ensures { result ≡ unwrap_or (looked_up pairs.now text.entry) text.entry }
-{
-    match looked_up(pairs, text.bytes()) {
-        Some(bytes) => Text::lent(bytes),
-        None => text,
+    match table.get(text.bytes()) {
+        Some(bytes) => Text::copied(alloc, bytes),
+        None => Ok(text),
     }
 }
 
@@ -60,7 +53,7 @@ pub fn stripped<'a>(alloc: Global, prefix: &Name, text: Text<'a>) -> Result<Text
 {
     let prefix = prefix.bytes();
     match text.bytes().strip_prefix(prefix) {
-        Some(rest) if !prefix.is_empty() => Ok(Text::own(Vec::from_slice(alloc, rest)?)),
+        Some(rest) if !prefix.is_empty() => Text::copied(alloc, rest),
         _ => Ok(text),
     }
 }
@@ -81,17 +74,4 @@ pub fn lowered<'a>(alloc: Global, text: Text<'a>) -> Result<Text<'a>, Memory>
     }
     let lower = text.bytes().iter().map(|byte| lower_byte(*byte));
     Ok(Text::own(lower.collect(alloc)?))
-}
-
-/// Equal pairs.
-pub fn copy_pairs(alloc: Global, pairs: &[(Name, Name)]) -> Result<Vec<(Name, Name)>, Memory>
-    ensures { IfOk result (λ v. v.items ≡ pairs.now) }
-{
-    let mut list = Vec::with_capacity(alloc, pairs.len())?;
-    for pair in pairs {
-        let left = pair.0.copy(alloc)?;
-        let right = pair.1.copy(alloc)?;
-        list.push((left, right))?;
-    }
-    Ok(list)
 }

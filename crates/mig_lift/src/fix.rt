@@ -12,6 +12,7 @@ ghost use Rattle.mig_small.specs.Small.{rule_of, open_record};
 use mig_leaf::Const;
 use mig_small::SmallChain;
 use mig_tree::{Memory, Name, Text, Tree};
+use std::alloc::Global;
 
 /// Takes a name out of a map and lets its tree go.
 #[tactic(auto, using(crate::proofs::Edits::map_without))]
@@ -40,25 +41,35 @@ fn rename<'a>(tree: &mut Tree<'a>, old_name: &Name, new_name: &'a Name) -> Resul
 }
 
 /// Puts a constant under a name, in place of what is there.
-fn add<'a>(tree: &mut Tree<'a>, name: &'a Name, constant: &'a Const) -> Result<(), Memory>
+fn add<'a>(
+    alloc: Global,
+    tree: &mut Tree<'a>,
+    name: &'a Name,
+    constant: &Const,
+) -> Result<(), Memory>
     requires { IsMap (plain_of tree.old) }
     ensures map { OnOk result (IsMap (plain_of tree.new)) }
     ensures added { OnOk result (plain_of tree.new
         ≡ on_entries (act_on (model.add name.now (const_of constant.now))) (plain_of tree.old)) }
 {
+    let constant = constant.tree(alloc)?;
     take_out(tree, name);
-    tree.put(Text::lent(name.bytes()), constant.tree())?;
+    tree.put(Text::lent(name.bytes()), constant)?;
     Ok(())
 }
 
 /// Does the fix of a small chain to a map: one field gets another name, and one is added.
-pub fn fix<'a>(chain: &'a SmallChain, tree: &mut Tree<'a>) -> Result<(), Memory>
+pub fn fix<'a>(
+    alloc: Global,
+    chain: &'a SmallChain,
+    tree: &mut Tree<'a>,
+) -> Result<(), Memory>
     requires { IsMap (plain_of tree.old) }
     ensures map { OnOk result (IsMap (plain_of tree.new)) }
     ensures fixed { OnOk result (plain_of tree.new
         ≡ act (rule_of chain.now) chain.now.root (open_record chain.now.before) (plain_of tree.old)) }
 {
     rename(tree, chain.old_name(), chain.new_name())?;
-    add(tree, chain.added(), chain.constant())?;
+    add(alloc, tree, chain.added(), chain.constant())?;
     Ok(())
 }

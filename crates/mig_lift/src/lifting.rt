@@ -43,14 +43,19 @@ fn fields_at(chain: &SmallChain, version: u32) -> &[SmallField]
 }
 
 /// Does the fix where it is due.
-fn fix_if<'a>(chain: &'a SmallChain, due: bool, tree: &mut Tree<'a>) -> Result<(), Memory>
+fn fix_if<'a>(
+    alloc: Global,
+    chain: &'a SmallChain,
+    due: bool,
+    tree: &mut Tree<'a>,
+) -> Result<(), Memory>
     requires { IsMap (plain_of tree.old) }
     ensures map { OnOk result (IsMap (plain_of tree.new)) }
     ensures fixed { OnOk result (plain_of tree.new
         ≡ (if due then act (rule_of chain.now) chain.now.root (open_record chain.now.before) (plain_of tree.old) else plain_of tree.old)) }
 {
     if due {
-        return fix(chain, tree);
+        return fix(alloc, chain, tree);
     }
     Ok(())
 }
@@ -85,7 +90,7 @@ fn lift_tree<'a, L: Ledger>(
         return Err(LiftFault::Version(VersionKind::Above(version)));
     }
     let mut tree = read_by_schema(alloc, chain, fields_at(chain, version), tree, steps)?;
-    fix_if(chain, is_due(chain, version, target), &mut tree)?;
+    fix_if(alloc, chain, is_due(chain, version, target), &mut tree)?;
     path.put(alloc, &mut tree, chain.form(), target)?;
     Ok((tree, version))
 }

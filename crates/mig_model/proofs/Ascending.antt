@@ -15,58 +15,52 @@ use Rattle.std.proofs.lemmas.Map.Keys.{sorted_head, sorted_tail, IsDistinct-head
 use Rattle.std_collections.specs.Layout.BTreeMap.{seek}
 use Rattle.std_collections.proofs.Seek.{found_at, insert_entry_err, sorted_insert, seek-Ok}
 use Rattle.std_collections.proofs.Entries.{NonePasses, lookup-none}
-use Rattle.mig_model.specs.Plain.{Plain}
 use Rattle.mig_model.specs.Names.{by_bytes, gathered, Ascends, put, under}
 use Rattle.mig_model.proofs.OneOrder.{one_order}
+use Rattle.mig_model.proofs.Rising.{nothing_ascends}
 use Rattle.std.proofs.lemmas.Option.{same_Some}
 
-abbrev Pairing : Type 0
-Pairing = List ℕ × Plain
+module _ {A : Type 0} where
+  -- a name that isn't there goes to a place
+  place_of : (name : List ℕ) (t : A) (ps : List (List ℕ × A)) → under name ps ≡ None → (r : Result ℕ ℕ) → seek (by_bytes name) ps ≡ r → (i : ℕ) × (seek (by_bytes name) ps ≡ Err i)
+  place_of name t ps none (Err i) h = (i, h)
+  place_of name t ps none (Ok i) h = absurd (there ps i (seek-Ok (by_bytes name) ps i h).0 (sym (found_at (by_bytes name) ps i h).value ∙ none))
+    where
+      there : (es : List (List ℕ × A)) (i : ℕ) → i < length es → slice_get (values_of es) i ≡ None → ⊥
+      there [] i l e = absurd (omega arith)
+      there (x ∷ es) zero l e = absurd cc
+      there (x ∷ es) (suc i) l e = there es i (omega arith) e
 
--- a name that isn't there goes to a place
-place_of : (name : List ℕ) (t : Plain) (ps : List Pairing) → under name ps ≡ None → (r : Result ℕ ℕ) → seek (by_bytes name) ps ≡ r → (i : ℕ) × (seek (by_bytes name) ps ≡ Err i)
-place_of name t ps none (Err i) h = (i, h)
-place_of name t ps none (Ok i) h = absurd (there ps i (seek-Ok (by_bytes name) ps i h).0 (sym (found_at (by_bytes name) ps i h).value ∙ none))
-  where
-    there : (es : List Pairing) (i : ℕ) → i < length es → slice_get (values_of es) i ≡ None → ⊥
-    there [] i l e = absurd (omega arith)
-    there (x ∷ es) zero l e = absurd cc
-    there (x ∷ es) (suc i) l e = there es i (omega arith) e
+  pub put_new : (name : List ℕ) (t : A) (ps : List (List ℕ × A)) → Ascends ps → under name ps ≡ None → IsPermutation ((name, t) ∷ ps) (put name t ps) × Ascends (put name t ps)
+  put_new name t ps s none =
+      let at = place_of name t ps none (seek (by_bytes name) ps) refl in
+      let is : insert ps at.0 (name, t) ≡ put name t ps = insert_entry_err by_bytes name t ps at.0 at.1 in (
+        subst (IsPermutation ((name, t) ∷ ps)) is (IsPermutation-insert ps at.0 (name, t)),
+        subst Ascends is (sorted_insert by_bytes name t nat_list_cmp_total ps at.0 s at.1),
+      )
 
-pub put_new : (name : List ℕ) (t : Plain) (ps : List Pairing) → Ascends ps → under name ps ≡ None → IsPermutation ((name, t) ∷ ps) (put name t ps) × Ascends (put name t ps)
-put_new name t ps s none =
-    let at = place_of name t ps none (seek (by_bytes name) ps) refl in
-    let is : insert ps at.0 (name, t) ≡ put name t ps = insert_entry_err by_bytes name t ps at.0 at.1 in (
-      subst (IsPermutation ((name, t) ∷ ps)) is (IsPermutation-insert ps at.0 (name, t)),
-      subst Ascends is (sorted_insert by_bytes name t nat_list_cmp_total ps at.0 s at.1),
-    )
+  abbrev step_at : (List ℕ × A) → List (List ℕ × A) → Option A → Option (List (List ℕ × A))
+  step_at q ps o = if is_some o then None else Some (put q.0 q.1 ps)
 
-unnamed : Ascends {A = Plain} []
-unfolding IsStrictlySortedBy
-unnamed = tt
+  abbrev step : (List ℕ × A) → Option (List (List ℕ × A)) → Option (List (List ℕ × A))
+  step q o = option_and_then (λ ps. step_at q ps (under q.0 ps)) o
 
-abbrev step_at : Pairing → List Pairing → Option Plain → Option (List Pairing)
-step_at q ps o = if is_some o then None else Some (put q.0 q.1 ps)
+  pub gathered_sound : (qs ps : List (List ℕ × A)) → gathered qs ≡ Some ps → IsPermutation qs ps × Ascends ps
+  gathered_sound [] ps e = let is : [] ≡ ps = same_Some [] ps e in (subst (IsPermutation []) is (IsPermutation-refl []), subst Ascends is (nothing_ascends A))
+  gathered_sound (q ∷ qs) ps e = by (gathered qs) refl (gathered_sound qs) e
+    where
+      new : (rs : List (List ℕ × A)) → IsPermutation qs rs × Ascends rs → (o : Option A) → under q.0 rs ≡ o → step_at q rs o ≡ Some ps → IsPermutation (q ∷ qs) ps × Ascends ps
+      new rs known None none e' =
+          let more = put_new q.0 q.1 rs known.1 none in
+          let is : put q.0 q.1 rs ≡ ps = same_Some (put q.0 q.1 rs) ps e' in (
+            subst (IsPermutation (q ∷ qs)) is (IsPermutation-trans (q ∷ qs) (q ∷ rs) (put q.0 q.1 rs) (IsPermutation-cons q qs rs known.0) more.0),
+            subst Ascends is more.1,
+          )
+      new rs known (Some t) there e' = absurd cc
 
-abbrev step : Pairing → Option (List Pairing) → Option (List Pairing)
-step q o = option_and_then (λ ps. step_at q ps (under q.0 ps)) o
-
-pub gathered_sound : (qs ps : List Pairing) → gathered qs ≡ Some ps → IsPermutation qs ps × Ascends ps
-gathered_sound [] ps e = let is : [] ≡ ps = same_Some [] ps e in (subst (IsPermutation []) is (IsPermutation-refl []), subst Ascends is unnamed)
-gathered_sound (q ∷ qs) ps e = by (gathered qs) refl (gathered_sound qs) e
-  where
-    new : (rs : List Pairing) → IsPermutation qs rs × Ascends rs → (o : Option Plain) → under q.0 rs ≡ o → step_at q rs o ≡ Some ps → IsPermutation (q ∷ qs) ps × Ascends ps
-    new rs known None none e' =
-        let more = put_new q.0 q.1 rs known.1 none in
-        let is : put q.0 q.1 rs ≡ ps = same_Some (put q.0 q.1 rs) ps e' in (
-          subst (IsPermutation (q ∷ qs)) is (IsPermutation-trans (q ∷ qs) (q ∷ rs) (put q.0 q.1 rs) (IsPermutation-cons q qs rs known.0) more.0),
-          subst Ascends is more.1,
-        )
-    new rs known (Some t) there e' = absurd cc
-
-    by : (o : Option (List Pairing)) → gathered qs ≡ o → ((rs : List Pairing) → gathered qs ≡ Some rs → IsPermutation qs rs × Ascends rs) → step q o ≡ Some ps → IsPermutation (q ∷ qs) ps × Ascends ps
-    by None h rest e' = absurd cc
-    by (Some rs) h rest e' = new rs (rest rs h) (under q.0 rs) refl e'
+      by : (o : Option (List (List ℕ × A))) → gathered qs ≡ o → ((rs : List (List ℕ × A)) → gathered qs ≡ Some rs → IsPermutation qs rs × Ascends rs) → step q o ≡ Some ps → IsPermutation (q ∷ qs) ps × Ascends ps
+      by None h rest e' = absurd cc
+      by (Some rs) h rest e' = new rs (rest rs h) (under q.0 rs) refl e'
 
 pub flips : (x y : List ℕ) → eq_by_cmp by_bytes x y ≡ eq_by_cmp by_bytes y x
 flips x y = reversed (by_bytes y x) (by_bytes x y) (nat_list_cmp_total.antisymm x y)
@@ -83,38 +77,39 @@ none_is_any : (name : List ℕ) (ks : List (List ℕ)) → AllByRecursion (λ y.
 none_is_any name [] h = refl
 none_is_any name (k ∷ ks) h = rw h.0 (none_is_any name ks h.1)
 
-none_passes : (name : List ℕ) (ps : List Pairing) → list_any (eq_by_cmp by_bytes name) (keys_of ps) ≡ false → NonePasses (is_at (by_bytes name)) ps
-none_passes name [] h = tt
-none_passes name (p ∷ ps) h = let b = parts (eq_by_cmp by_bytes name p.0) (list_any (eq_by_cmp by_bytes name) (keys_of ps)) h in (b.0, none_passes name ps b.1)
-  where
-    parts : (a b : Bool) → (a || b) ≡ false → (a ≡ false) × (b ≡ false)
-    parts false b e = (refl, e)
-    parts true b e = absurd cc
+module _ {A : Type 0} where
+  none_passes : (name : List ℕ) (ps : List (List ℕ × A)) → list_any (eq_by_cmp by_bytes name) (keys_of ps) ≡ false → NonePasses (is_at (by_bytes name)) ps
+  none_passes name [] h = tt
+  none_passes name (p ∷ ps) h = let b = parts (eq_by_cmp by_bytes name p.0) (list_any (eq_by_cmp by_bytes name) (keys_of ps)) h in (b.0, none_passes name ps b.1)
+    where
+      parts : (a b : Bool) → (a || b) ≡ false → (a ≡ false) × (b ≡ false)
+      parts false b e = (refl, e)
+      parts true b e = absurd cc
 
-pub gathered_if_apart : (qs : List Pairing) → Apart (keys_of qs) → (ps : List Pairing) × (gathered qs ≡ Some ps)
-gathered_if_apart [] h = ([], refl)
-gathered_if_apart (q ∷ qs) h =
-    let rest = gathered_if_apart qs (IsDistinct-tail (eq_by_cmp by_bytes) q.0 (keys_of qs) h) in
-    let known = gathered_sound qs rest.0 rest.1 in
-    let any : list_any (eq_by_cmp by_bytes q.0) (keys_of rest.0) ≡ false =
-    sym (list_any-IsPermutation (eq_by_cmp by_bytes q.0) (keys_of qs) (keys_of rest.0) (IsPermutation-map (λ p. p.0) qs rest.0 known.0))
-    ∙ none_is_any q.0 (keys_of qs) (IsDistinct-head (eq_by_cmp by_bytes) q.0 (keys_of qs) h) in
-    let none : under q.0 rest.0 ≡ None = lookup-none (is_at (by_bytes q.0)) rest.0 (none_passes q.0 rest.0 any) in
-    (put q.0 q.1 rest.0, ap (step q) rest.1 ∙ ap (step_at q rest.0) none)
+  pub gathered_if_apart : (qs : List (List ℕ × A)) → Apart (keys_of qs) → (ps : List (List ℕ × A)) × (gathered qs ≡ Some ps)
+  gathered_if_apart [] h = ([], refl)
+  gathered_if_apart (q ∷ qs) h =
+      let rest = gathered_if_apart qs (IsDistinct-tail (eq_by_cmp by_bytes) q.0 (keys_of qs) h) in
+      let known = gathered_sound qs rest.0 rest.1 in
+      let any : list_any (eq_by_cmp by_bytes q.0) (keys_of rest.0) ≡ false =
+      sym (list_any-IsPermutation (eq_by_cmp by_bytes q.0) (keys_of qs) (keys_of rest.0) (IsPermutation-map (λ p. p.0) qs rest.0 known.0))
+      ∙ none_is_any q.0 (keys_of qs) (IsDistinct-head (eq_by_cmp by_bytes) q.0 (keys_of qs) h) in
+      let none : under q.0 rest.0 ≡ None = lookup-none (is_at (by_bytes q.0)) rest.0 (none_passes q.0 rest.0 any) in
+      (put q.0 q.1 rest.0, ap (step q) rest.1 ∙ ap (step_at q rest.0) none)
 
-pub gathered_complete : (qs ps : List Pairing) → IsPermutation qs ps → Ascends ps → gathered qs ≡ Some ps
-gathered_complete qs ps p s =
-    let apart : Apart (keys_of qs) =
-    IsDistinct-IsPermutation (eq_by_cmp by_bytes) flips (keys_of ps) (keys_of qs)
-    (IsPermutation-sym (keys_of qs) (keys_of ps) (IsPermutation-map (λ q. q.0) qs ps p)) (IsDistinct-from_sorted by_bytes (keys_of ps) s) in
-    let g = gathered_if_apart qs apart in
-    let known = gathered_sound qs g.0 g.1 in
-    g.1 ∙ ap (λ l. Some l) (one_order qs g.0 ps known.0 p known.1 s)
+  pub gathered_complete : (qs ps : List (List ℕ × A)) → IsPermutation qs ps → Ascends ps → gathered qs ≡ Some ps
+  gathered_complete qs ps p s =
+      let apart : Apart (keys_of qs) =
+      IsDistinct-IsPermutation (eq_by_cmp by_bytes) flips (keys_of ps) (keys_of qs)
+      (IsPermutation-sym (keys_of qs) (keys_of ps) (IsPermutation-map (λ q. q.0) qs ps p)) (IsDistinct-from_sorted by_bytes (keys_of ps) s) in
+      let g = gathered_if_apart qs apart in
+      let known = gathered_sound qs g.0 g.1 in
+      g.1 ∙ ap (λ l. Some l) (one_order qs g.0 ps known.0 p known.1 s)
 
--- where no order of the pairs ascends, nothing is gathered
-pub gathered_none : (qs : List Pairing) → ((ps : List Pairing) → IsPermutation qs ps → Ascends ps → ⊥) → gathered qs ≡ None
-gathered_none qs h = by (gathered qs) refl
-  where
-    by : (o : Option (List Pairing)) → gathered qs ≡ o → gathered qs ≡ None
-    by None e = e
-    by (Some ps) e = let known = gathered_sound qs ps e in absurd (h ps known.0 known.1)
+  -- where no order of the pairs ascends, nothing is gathered
+  pub gathered_none : (qs : List (List ℕ × A)) → ((ps : List (List ℕ × A)) → IsPermutation qs ps → Ascends ps → ⊥) → gathered qs ≡ None
+  gathered_none qs h = by (gathered qs) refl
+    where
+      by : (o : Option (List (List ℕ × A))) → gathered qs ≡ o → gathered qs ≡ None
+      by None e = e
+      by (Some ps) e = let known = gathered_sound qs ps e in absurd (h ps known.0 known.1)

@@ -13,7 +13,8 @@ use Rattle.std.proofs.lemmas.Cmp.{nat_list_cmp_total}
 use Rattle.std.proofs.lemmas.Map.Lookups.{exact_bytes}
 use Rattle.std.proofs.lemmas.Map.Keys.{sorted_head, sorted_tail}
 use Rattle.std.proofs.lemmas.List.Kept.{IsStrictlySortedBy-filter}
-use Rattle.std.proofs.lemmas.List.Sorted.{IsPermutation-refl, IsPermutation-trans, IsPermutation-cons, IsPermutation-middle}
+use Rattle.std.proofs.lemmas.List.Sorted.{IsPermutation-refl, IsPermutation-trans, IsPermutation-cons, IsPermutation-middle, IsPermutation-append_comm}
+use Rattle.mig_model.specs.Record.{IsOrderOf}
 use Rattle.mig_model.specs.Names.{by_bytes, Ascends, same_name, is_among, has_twice, under, has, without, put, bring, put_all, moved, those, others, changed}
 use Rattle.mig_model.proofs.Bools.{right_or, split_or}
 use Rattle.mig_model.proofs.Rising.{nothing_ascends}
@@ -246,3 +247,10 @@ put_all-permutes (n ∷ ns) base once apart =
     IsPermutation-trans (n ∷ (ns ++ base)) (n ∷ put_all ns base) (put n.0 n.1 (put_all ns base))
     (IsPermutation-cons n (ns ++ base) (put_all ns base) (put_all-permutes ns base o.1 a.1))
     (put-permutes n.0 n.1 (put_all ns base) none)
+
+-- entries whose names are distinct, in the order of their names
+pub order_all : {A : Type 0} (base ads : List (List ℕ × A)) → Ascends base → has_twice (keys_of ads) ≡ false → list_any (λ n. has n base) (keys_of ads) ≡ false → IsOrderOf (base ++ ads) (put_all ads base)
+order_all base ads s once apart = record {
+  same = IsPermutation-trans (base ++ ads) (ads ++ base) (put_all ads base) (IsPermutation-append_comm base ads) (put_all-permutes ads base once apart);
+  ascend = ascends-put_all ads base s;
+}

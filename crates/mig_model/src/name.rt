@@ -57,6 +57,14 @@ impl Keyed for Name {
     }
 }
 
+impl<V> Keyed for (Name, V) {
+    ghost key = { λ pair. pair.0 };
+
+    fn key(&self) -> &[u8] {
+        self.0.bytes()
+    }
+}
+
 impl PartialEq for Name {
     ghost eq = { pointwise nat_eq };
 

@@ -105,7 +105,7 @@ impl VersionPath {
             ≡ put_version self.now (version_tree form version) (plain_of tree.old)) }
         ensures err { OnErr result (plain_of tree.new ≡ plain_of tree.old) }
     {
-        let name = Text::own(Vec::from_slice(alloc, self.last().bytes())?);
+        let name = Text::copied(alloc, self.last().bytes())?;
         put_under(self.names(), tree, name, tree_of(form, version))
     }
 

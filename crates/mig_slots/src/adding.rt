@@ -6,8 +6,9 @@ ghost use Rattle.mig_field.specs.FieldFn as op;
 ghost use Rattle.mig_action.specs.Moves.{move};
 ghost use Rattle.mig_slots.specs.View.{moving_of, IsOrdered};
 
-use crate::edits::{drop_slot, has_slot, put_slot};
-use crate::{Memory, Moving, Name, Slot, Text, Value};
+use crate::edits::{drop_slot, has_slot, put_value};
+use crate::{Memory, Moving, Name, Value};
+use std::alloc::Global;
 
 /// Takes the field out, and lets its value go.
 pub fn drop_field<'a>(mut moving: Moving<'a>, x: &Name) -> Moving<'a>
@@ -18,25 +19,27 @@ pub fn drop_field<'a>(mut moving: Moving<'a>, x: &Name) -> Moving<'a>
     moving
 }
 
-/// Puts the value under a new name, which no unknown slot keeps. The slot borrows the name.
-pub fn add<'a>(mut moving: Moving<'a>, x: &'a Name, value: Value<'a>) -> Result<Moving<'a>, Memory>
+/// Puts the value under a new name, which no unknown slot keeps.
+pub fn add<'a>(
+    alloc: Global,
+    mut moving: Moving<'a>,
+    x: &Name,
+    value: Value<'a>,
+) -> Result<Moving<'a>, Memory>
     requires { IsOrdered (moving_of moving) }
     ensures { let given = moving_of moving.entry in IfOk result (λ m. moving_of m
         ≡ record { slots = put x.now (typed_of value.entry) given.slots; rest = without x.now given.rest }) }
 {
-    let slot = Slot {
-        name: Text::lent(x.bytes()),
-        value,
-    };
-    put_slot(&mut moving.slots, slot)?;
+    put_value(alloc, &mut moving.slots, x.bytes(), value)?;
     drop_slot(&mut moving.rest, x.bytes());
     Ok(moving)
 }
 
-/// Puts the value under the name where nothing stands there; otherwise lets it go. The slot borrows the name.
+/// Puts the value under the name where nothing stands there; otherwise lets it go.
 pub fn fill_absent<'a>(
+    alloc: Global,
     mut moving: Moving<'a>,
-    x: &'a Name,
+    x: &Name,
     value: Value<'a>,
 ) -> Result<Moving<'a>, Memory>
     requires { IsOrdered (moving_of moving) }
@@ -51,10 +54,6 @@ pub fn fill_absent<'a>(
         drop(value);
         return Ok(moving);
     }
-    let slot = Slot {
-        name: Text::lent(x.bytes()),
-        value,
-    };
-    put_slot(&mut moving.slots, slot)?;
+    put_value(alloc, &mut moving.slots, x.bytes(), value)?;
     Ok(moving)
 }

@@ -8,8 +8,9 @@ ghost use Rattle.mig_value.specs.Places.{value_at, with_value_at};
 ghost use Rattle.mig_value.specs.Typed.{atom};
 ghost use Rattle.mig_value.specs.View.{typed_of, slot_of};
 
-use crate::{Memory, Slot, Tree, Value};
+use crate::{Memory, Slot, Text, Tree, Value};
 use mig_model::place_by_key;
+use std::alloc::Global;
 use std::mem;
 
 /// Where the name is, or where it would go. It takes log n comparisons.
@@ -88,6 +89,22 @@ pub(crate) fn put_slot<'a>(slots: &mut Vec<Slot<'a>>, slot: Slot<'a>) -> Result<
             Ok(())
         }
     }
+}
+
+/// Puts the value at the place of the name, of which it makes a copy, instead of what stands there.
+pub(crate) fn put_value<'a>(
+    alloc: Global,
+    slots: &mut Vec<Slot<'a>>,
+    name: &[u8],
+    value: Value<'a>,
+) -> Result<(), Memory>
+    requires { Ascends (map slot_of slots.old.items) }
+    ensures put { OnOk result (map slot_of slots.new.items
+        ≡ put name.now (typed_of value.entry) (map slot_of slots.old.items)) }
+    ensures ascend { OnOk result (Ascends (map slot_of slots.new.items)) }
+{
+    let name = Text::copied(alloc, name)?;
+    put_slot(slots, Slot { name, value })
 }
 
 /// Takes the value at a place out, and leaves a null there. No slot moves.

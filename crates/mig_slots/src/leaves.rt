@@ -19,7 +19,7 @@ use mig_value::Values;
 use std::alloc::Global;
 
 /// An atom with another tree; any other value as it is.
-fn mapped<'a>(alloc: Global, value: Value<'a>, function: &'a LeafFn) -> Result<Value<'a>, Memory>
+fn mapped<'a>(alloc: Global, value: Value<'a>, function: &LeafFn) -> Result<Value<'a>, Memory>
     requires { FitsAtom (leaf_fn_of function.now) (typed_of value) }
     ensures { IfOk result (λ v. typed_of v ≡ at_leaf (leaf_value (leaf_fn_of function.now)) (typed_of value.entry)) }
 {
@@ -34,7 +34,7 @@ pub fn map_leaf<'a>(
     alloc: Global,
     mut moving: Moving<'a>,
     x: &Name,
-    function: &'a LeafFn,
+    function: &LeafFn,
 ) -> Result<Moving<'a>, Memory>
     requires ordered { IsOrdered (moving_of moving) }
     requires fits { IfSome (under x.now (moving_of moving).slots) (FitsAtom (leaf_fn_of function.now)) }
@@ -55,8 +55,8 @@ fn one_mapped<'a>(
     alloc: Global,
     value: Value<'a>,
     kind: Kind,
-    first: &'a LeafFn,
-    second: &'a LeafFn,
+    first: &LeafFn,
+    second: &LeafFn,
 ) -> Result<Value<'a>, Memory>
     requires { OneFitsAtom (leaf_fn_of first.now) (leaf_fn_of second.now) kind (typed_of value) }
     ensures { IfOk result (λ v. typed_of v
@@ -79,8 +79,8 @@ fn side_mapped<'a>(
     alloc: Global,
     value: Value<'a>,
     kind: Kind,
-    first: &'a LeafFn,
-    second: &'a LeafFn,
+    first: &LeafFn,
+    second: &LeafFn,
 ) -> Result<Value<'a>, Memory>
     requires { OneFitsSide (leaf_fn_of first.now) (leaf_fn_of second.now) kind (typed_of value) }
     ensures { IfOk result (λ v. typed_of v
@@ -100,8 +100,8 @@ pub fn unify<'a>(
     mut moving: Moving<'a>,
     x: &Name,
     kind: Kind,
-    first: &'a LeafFn,
-    second: &'a LeafFn,
+    first: &LeafFn,
+    second: &LeafFn,
 ) -> Result<Moving<'a>, Memory>
     requires ordered { IsOrdered (moving_of moving) }
     requires fits { IfSome (under x.now (moving_of moving).slots) (OneFitsSide (leaf_fn_of first.now)
@@ -136,11 +136,13 @@ pub fn wrap<'a>(alloc: Global, mut moving: Moving<'a>, x: &Name) -> Result<Movin
     requires { IsOrdered (moving_of moving) }
     ensures { IfOk result (λ m. moving_of m ≡ move (op.wrap x.now) [] (moving_of moving.entry)) }
 {
-    let Ok(at) = place(moving.slots.as_slice(), x.bytes()) else {
-        return Ok(moving);
-    };
-    let value = take_value_at(&mut moving.slots, at);
-    let value = list_of_one(alloc, value)?;
-    set_value_at(&mut moving.slots, at, value);
-    Ok(moving)
+    match place(moving.slots.as_slice(), x.bytes()) {
+        Ok(at) => {
+            let value = take_value_at(&mut moving.slots, at);
+            let value = list_of_one(alloc, value)?;
+            set_value_at(&mut moving.slots, at, value);
+            Ok(moving)
+        }
+        Err(_) => Ok(moving),
+    }
 }

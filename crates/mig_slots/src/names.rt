@@ -1,4 +1,4 @@
-//! Names in ascending order, possibly repeated.
+//! Names in the order in which they were written, which are searched in log n.
 ghost use Rattle.std.specs.Prelude.{◌≡◌, IfOk, IsPermutation};
 ghost use Rattle.mig_model.specs.Names.{is_among, has_twice};
 ghost use Rattle.mig_slots.specs.Sorted.{AreSorted};
@@ -8,47 +8,59 @@ use mig_tree::{Memory, Name};
 use std::alloc::Global;
 use std::marker::Model;
 
-/// Names in ascending order, possibly repeated. Contracts see the list of the names.
+/// Names in the order in which they were written, possibly repeated. Contracts see the list of the names.
 #[derive(Debug, Drop)]
 pub struct Names {
     list: Vec<Name>,
+    // Equal names in ascending order, for the search.
+    sorted: Vec<Name>,
 }
 
 impl Model for Names {
     ghost use Rattle.std.specs.Prelude.{ℕ, List};
+    ghost use Rattle.mig_slots.specs.Sorted.{AreInOrder};
 
     ghost Value = { List (List ℕ) };
 
     ghost view = { λ a. a.list.items };
 
-    ghost use Rattle.mig_slots.specs.Sorted.{AreSorted};
+    ghost invariant = { λ a. AreInOrder a.list.items a.sorted.items };
+}
 
-    ghost invariant = { λ a. AreSorted a.list.items };
+/// Equal names.
+fn copy_names(alloc: Global, names: &[Name]) -> Result<Vec<Name>, Memory>
+    ensures { IfOk result (λ ns. ns.items ≡ names.now) }
+{
+    let mut list = Vec::new(alloc);
+    for name in names {
+        list.push(name.copy(alloc)?)?;
+    }
+    Ok(list)
 }
 
 impl Names {
-    /// These names in order. It sorts in place, and takes no memory.
-    pub fn new(mut list: Vec<Name>) -> Names
-        ensures { IsPermutation list.items result }
+    /// These names. It copies and sorts them for the search.
+    pub fn new(alloc: Global, list: Vec<Name>) -> Result<Names, Memory>
+        ensures { IfOk result (λ ns. ns ≡ list.items) }
     {
-        sort_by_key(&mut list);
-        Names { list }
+        let mut sorted = copy_names(alloc, list.as_slice())?;
+        sort_by_key(&mut sorted);
+        Ok(Names { list, sorted })
     }
 
-    /// The names, ascending by bytes.
+    /// The names, as they were written.
     pub fn as_slice(&self) -> &[Name]
-        ensures names { result.now ≡ self.now }
-        ensures sorted { AreSorted self.now }
+        ensures { result.now ≡ self.now }
     {
         self.list.as_slice()
     }
 
     /// Gives the names up.
     pub fn into_vec(self) -> Vec<Name>
-        ensures names { result.items ≡ self }
-        ensures sorted { AreSorted self }
+        ensures { result.items ≡ self }
     {
-        let Names { list } = self;
+        let Names { list, sorted } = self;
+        drop(sorted);
         list
     }
 
@@ -56,24 +68,21 @@ impl Names {
     pub fn contains(&self, name: &[u8]) -> bool
         ensures { result ≡ is_among self.now name.now }
     {
-        place_by_key(self.as_slice(), name).is_ok()
+        place_by_key(self.sorted.as_slice(), name).is_ok()
     }
 
     /// Whether a name is there twice.
     pub fn has_twice(&self) -> bool
         ensures { result ≡ has_twice self.now }
     {
-        !ascends(self.as_slice())
+        !ascends(self.sorted.as_slice())
     }
 
     /// Equal names.
     pub fn copy(&self, alloc: Global) -> Result<Names, Memory>
         ensures { IfOk result (λ ns. ns ≡ self.now) }
     {
-        let mut list = Vec::new(alloc);
-        for name in self.as_slice() {
-            list.push(name.copy(alloc)?)?;
-        }
-        Ok(Names { list })
+        let list = copy_names(alloc, self.as_slice())?;
+        Names::new(alloc, list)
     }
 }

@@ -5,12 +5,18 @@ ghost use Rattle.mig_field.specs.FieldFn as op;
 ghost use Rattle.mig_action.specs.Moves.{move, learned_value};
 ghost use Rattle.mig_slots.specs.View.{moving_of, IsOrdered};
 
-use crate::edits::{drop_slot, put_slot, take_slot, take_value};
-use crate::{Memory, Moving, Name, Slot, Text, Value};
+use crate::edits::{drop_slot, put_slot, put_value, take_slot, take_value};
+use crate::{Memory, Moving, Name, Slot, Value};
 use mig_tree::Kind;
+use std::alloc::Global;
 
-/// Moves the slot of one name to another, which it borrows and which nothing else keeps.
-pub fn rename<'a>(mut moving: Moving<'a>, x: &Name, y: &'a Name) -> Result<Moving<'a>, Memory>
+/// Moves the slot of one name to another, which nothing else keeps.
+pub fn rename<'a>(
+    alloc: Global,
+    mut moving: Moving<'a>,
+    x: &Name,
+    y: &Name,
+) -> Result<Moving<'a>, Memory>
     requires { IsOrdered (moving_of moving) }
     ensures { IfOk result (λ m. moving_of m ≡ move (op.rename x.now y.now) [] (moving_of moving.entry)) }
 {
@@ -19,8 +25,7 @@ pub fn rename<'a>(mut moving: Moving<'a>, x: &Name, y: &'a Name) -> Result<Movin
     drop_slot(&mut moving.rest, y.bytes());
     match taken {
         Some(value) => {
-            let name = Text::lent(y.bytes());
-            put_slot(&mut moving.slots, Slot { name, value })?;
+            put_value(alloc, &mut moving.slots, y.bytes(), value)?;
             Ok(moving)
         }
         None => Ok(moving),

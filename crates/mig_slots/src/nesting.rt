@@ -7,8 +7,8 @@ ghost use Rattle.mig_field.specs.FieldFn as op;
 ghost use Rattle.mig_action.specs.Moves.{move, open_record, inner_slots};
 ghost use Rattle.mig_slots.specs.View.{moving_of, IsOrdered};
 
-use crate::edits::{drop_slot, put_slot, take_value};
-use crate::{Memory, Moving, Name, Names, Slot, Text, Value};
+use crate::edits::{drop_slot, put_value, take_value};
+use crate::{Memory, Moving, Name, Names, Slot, Value};
 use mig_model::sort_by_key;
 use mig_template::Fields;
 use mig_value::{RecValue, Slots};
@@ -60,23 +60,19 @@ fn open_record<'a>(fields: Vec<Slot<'a>>) -> Value<'a>
     Value::Rec(RecValue::of_fields(Slots::new(fields)))
 }
 
-/// Moves the fields of these names into a record of their own. Its slot borrows the new name.
+/// Moves the fields of these names into a record of their own.
 pub fn nest<'a>(
     alloc: Global,
     moving: Moving<'a>,
     xs: &Names,
-    y: &'a Name,
+    y: &Name,
 ) -> Result<Moving<'a>, Memory>
     requires { IsOrdered (moving_of moving) }
     ensures { IfOk result (λ m. moving_of m ≡ move (op.nest xs.now y.now) [] (moving_of moving.entry)) }
 {
     let Moving { slots, mut rest } = moving;
     let (inside, mut outside) = parted(alloc, slots, xs)?;
-    let slot = Slot {
-        name: Text::lent(y.bytes()),
-        value: open_record(inside),
-    };
-    put_slot(&mut outside, slot)?;
+    put_value(alloc, &mut outside, y.bytes(), open_record(inside))?;
     drop_slot(&mut rest, y.bytes());
     Ok(Moving {
         slots: outside,

@@ -102,7 +102,7 @@ fn push_slot<'a>(
     let Some(value) = value else {
         return Ok(());
     };
-    let name = Text::own(Vec::from_slice(alloc, field.name.bytes())?);
+    let name = Text::copied(alloc, field.name.bytes())?;
     slots.push(Slot { name, value })?;
     Ok(())
 }

@@ -1,10 +1,13 @@
-//! Texts, which are lent from their source or owned.
-ghost use Rattle.std.specs.Prelude.{◌≡◌};
+//! Texts, which are lent from their source or hold their bytes.
+ghost use Rattle.std.specs.Prelude.{◌≡◌, IfOk};
 ghost use Rattle.mig_model.specs.Keeps.{IsShort};
 
+use crate::Memory;
+use arrayvec::ArrayVec;
+use std::alloc::Global;
 use std::marker::Model;
 
-/// The bytes of a text, lent by the source or owned. Contracts see the bytes alone, so two texts with the same bytes are equal there.
+/// The bytes of a text, lent by the source, owned, or, where they are few, in the text itself. Contracts see the bytes alone, so two texts with the same bytes are equal there.
 #[derive(Debug)]
 pub struct Text<'a> {
     held: Held<'a>,
@@ -21,6 +24,7 @@ impl Drop for Text<'_> {
 enum Held<'a> {
     Lent(&'a [u8]),
     Own(Vec<u8>),
+    Short(ArrayVec<u8, 16>),
 }
 
 impl<'a> Model for Text<'a> {
@@ -52,11 +56,26 @@ impl<'a> Text<'a> {
         }
     }
 
+    /// A text with a copy of the bytes. Up to sixteen stand in the text itself and take no memory.
+    pub fn copied(alloc: Global, bytes: &[u8]) -> Result<Text<'a>, Memory>
+        ensures { IfOk result (λ text. text ≡ bytes.now) }
+    {
+        let mut short = ArrayVec::new();
+        match short.try_extend_from_slice(bytes) {
+            Ok(()) => Ok(Text {
+                held: Held::Short(short),
+            }),
+            Err(_) => Ok(Text {
+                held: Held::Own(Vec::from_slice(alloc, bytes)?),
+            }),
+        }
+    }
+
     /// Whether the bytes are the source's. No contract speaks of the answer.
     pub fn is_lent(&self) -> bool {
         match &self.held {
             Held::Lent(_) => true,
-            Held::Own(_) => false,
+            Held::Own(_) | Held::Short(_) => false,
         }
     }
 
@@ -67,6 +86,7 @@ impl<'a> Text<'a> {
         match &self.held {
             Held::Lent(bytes) => bytes,
             Held::Own(bytes) => bytes.as_slice(),
+            Held::Short(bytes) => bytes.as_slice(),
         }
     }
 

@@ -1,7 +1,8 @@
-//! Does a part of the way of an NBT save, by a family of its own making: `bench/typed.py` times each part with it.
+//! Does a part of the way of an NBT save, by a family of its own making, or makes many texts: `bench/typed.py` and `bench/texts.py` time it.
 #![tactic(auto)]
 
 mod shapes;
+mod texts;
 
 ghost use Rattle.std.specs.Prelude.{◌≡◌, ◌<◌, IfSome, IsTrue};
 ghost use Rattle.mig_model.specs.Kinds.{IsMap};
@@ -135,7 +136,7 @@ fn is_done<L: Ledger>(
         "read" => is_save(alloc, bytes),
         "type" => fits(alloc, family, bytes),
         "write" => written::<L>(alloc, family, bytes, blank).is_some(),
-        _ => false,
+        part => texts::are_made(alloc, part, bytes),
     }
 }
 

@@ -8,5 +8,5 @@ use Rattle.mig_lift.proofs.fix.add.Goals as goal
 pub returns-clause-added : goal.returns-clause-added
 returns-clause-added c =
     c.in_ok-put.ensures.ok
-    ∙ (λ i. put_in ((c.lent.ensures ∙ c.bytes.ensures) i) (c.tree.ensures i) (c.take_out.ensures.rest i))
+    ∙ (λ i. put_in ((c.lent.ensures ∙ c.bytes.ensures) i) (c.in_ok-constant.ensures i) (c.take_out.ensures.rest i))
     ∙ added c.args.name.now (const_of c.args.constant.now) (plain_of c.args.tree.now) c.requires

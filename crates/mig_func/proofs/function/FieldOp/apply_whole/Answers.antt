@@ -23,16 +23,13 @@ retag-requires c =
 
 pub give_case-requires-clause-once : goal.give_case-requires-clause-once
 give_case-requires-clause-once c =
-    let fs = map field_of c.in-AddCase.fields.items in
-    let once =
-    new_case_once (field_op_of c.args.self.now) c.in-AddCase.literal c.args.on.now c.args.given fs (ap field_op_of c.in-AddCase.is)
-    (record { fits = c.requires.fits; record_kept = c.keeps.ensures; value_kept = c.keeps-2.ensures; shape = c.requires.shape }) in
-    subst (λ (l : List Field). has_twice (keys_of (map field_of l)) ≡ false) (sym c.deref.ensures.value) once
+    new_case_once (field_op_of c.args.self.now) c.in-AddCase.literal c.args.on.now c.args.given c.in-AddCase.fields (ap field_op_of c.in-AddCase.is)
+    (record { fits = c.requires.fits; record_kept = c.keeps.ensures; value_kept = c.keeps-2.ensures; shape = c.requires.shape })
 
 pub give_case-requires-clause-parts : goal.give_case-requires-clause-parts
 give_case-requires-clause-parts c =
-    let fs = map field_of c.in-AddCase.fields.items in
+    let fs = c.in-AddCase.fields in
     let facts =
     new_case_facts (field_op_of c.args.self.now) c.in-AddCase.literal c.args.on.now c.args.given fs (ap field_op_of c.in-AddCase.is)
     (record { fits = c.requires.fits; record_kept = c.keeps.ensures; value_kept = c.keeps-2.ensures; shape = c.requires.shape }) in
-    subst₂ (λ (l : List Field) r. IsRecordValue (cased_value c.in-AddCase.literal (map field_of l) r c.args.given)) (sym c.deref.ensures.value) (sym c.rest-in-AddCase.ensures) facts.parts
+    subst (λ r. IsRecordValue (cased_value c.in-AddCase.literal fs r c.args.given)) (sym c.rest-in-AddCase.ensures) facts.parts

@@ -42,7 +42,8 @@ returns-in-Clamp-clause-value c =
 pub returns-in-Clamp-clause-kind : goal.returns-in-Clamp-clause-kind
 returns-in-Clamp-clause-kind c = kind_out (leaf_fn_of c.args.self.now) (plain_of c.args.tree) (plain_of c.clamped-in-Clamp.result) c.requires (returns-in-Clamp-clause-value c)
 
-pub returns-in-OfText-clause-kind : goal.returns-in-OfText-clause-kind
-returns-in-OfText-clause-kind c =
-    let value : plain_of c.read_or.result ≡ leaf_value (leaf_fn_of c.args.self.now) (plain_of c.args.tree) = search rules in
-    kind_out (leaf_fn_of c.args.self.now) (plain_of c.args.tree) (plain_of c.read_or.result) c.requires value
+pub returns-in_ok-read_or-in-OfText-clause-kind : goal.returns-in_ok-read_or-in-OfText-clause-kind
+returns-in_ok-read_or-in-OfText-clause-kind c =
+    let made = plain_of c.in_ok-read_or-in-OfText.field-0 in
+    let value : made ≡ leaf_value (leaf_fn_of c.args.self.now) (plain_of c.args.tree) = search rules in
+    kind_out (leaf_fn_of c.args.self.now) (plain_of c.args.tree) made c.requires value

@@ -5,11 +5,11 @@ use Rattle.mig_model.specs.Record.{record_of}
 use Rattle.mig_value.specs.Fit.{FitAsRead}
 use Rattle.mig_value.specs.View.{typed_of}
 use Rattle.func_tests.proofs.Shapes.{read_shape}
-use Rattle.func_tests.proofs.tests.outcome.Goals as goal
+use Rattle.func_tests.proofs.tests.read_root.Goals as goal
 
 -- what was read has the shape of the root's record
-pub applied-requires : goal.applied-requires
-applied-requires g c =
+pub returns : goal.returns
+returns g c =
     let f = c.args.family.now in
     let n = c.root.result.now in
     let at : body f n ≡ record_of c.root_record-record.result.now = ap (body f) c.root.ensures ∙ c.root_record-record.ensures in

@@ -104,7 +104,7 @@ module _ (p : RecordParts) (i : IsRecord p.fields p.choice) where
       its_case None = (nothing_ascends (Presence × Template), λ n h. cc)
       its_case (Some t) = found t.1 (found_case t.1 p.choice) refl
 
-append_once : (ms ns : List (List ℕ)) → has_twice ms ≡ false → has_twice ns ≡ false → ((n : List ℕ) → is_among ms n ≡ true → is_among ns n ≡ false) → has_twice (ms ++ ns) ≡ false
+pub append_once : (ms ns : List (List ℕ)) → has_twice ms ≡ false → has_twice ns ≡ false → ((n : List ℕ) → is_among ms n ≡ true → is_among ns n ≡ false) → has_twice (ms ++ ns) ≡ false
 append_once ms ns a b h = twice_in_both ms ns a b ∙ none_among (is_among ns) ms h
 
 -- ---- a value whose slots stand in such a record has no name twice

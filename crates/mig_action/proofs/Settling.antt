@@ -64,7 +64,7 @@ settle_in_order ds fs h k same r v = λ i. record v { cased = cased i; rest = (i
     names n = among_is ds n ∙ (ap is_some (same n) ∙ sym (among_is fs n))
 
 -- ---- one field
-zero_kind : (k : Kind) → is_leaf k ≡ true → kind_of (const_tree (zero k)) ≡ k
+pub zero_kind : (k : Kind) → is_leaf k ≡ true → kind_of (const_tree (zero k)) ≡ k
 zero_kind K.Byte h = refl
 zero_kind K.Short h = refl
 zero_kind K.Int h = refl

@@ -121,14 +121,14 @@ pub out_there : (ss : List Slot) (n : List ℕ) → is_some (under n (out_slots 
 out_there ss n = grind (arith, found_out ss n)
 
 -- no Must field is missing
-abbrev Musts : List Field → Entries → Type 0
+abbrev pub Musts : List Field → Entries → Type 0
 Musts fs es = (n : List ℕ) (s : Presence × Template) → under n fs ≡ Some s → is_must s.0 ≡ true → is_some (under n es) ≡ true
 
-musts_all : (fs : List Field) (es : Entries) → has_musts (fields_of fs) es ≡ true → Musts fs es
+pub musts_all : (fs : List Field) (es : Entries) → has_musts (fields_of fs) es ≡ true → Musts fs es
 musts_all fs es h =
     found_in (λ l. has_musts (fields_of l) es ≡ true) (λ n (s : Presence × Template). is_must s.0 ≡ true → is_some (under n es) ≡ true) (λ f l k. (λ m. grind arith, grind arith)) fs h
 
-all_musts : (fs : List Field) (es : Entries) → Ascends fs → Musts fs es → has_musts (fields_of fs) es ≡ true
+pub all_musts : (fs : List Field) (es : Entries) → Ascends fs → Musts fs es → has_musts (fields_of fs) es ≡ true
 all_musts [] es s h = refl
 all_musts (f ∷ fs) es s h =
     let here = h f.0 f.1 (under-itself f fs) in
@@ -136,7 +136,7 @@ all_musts (f ∷ fs) es s h =
     grind (arith, here, behind)
 
 -- a choice between what holds of two
-either : {A : Type 0} (Q : A → Type 0) (b : Bool) (x y : A) → MatchBool b (Q x) (Q y) ≡ Q (if b then x else y)
+pub either : {A : Type 0} (Q : A → Type 0) (b : Bool) (x y : A) → MatchBool b (Q x) (Q y) ≡ Q (if b then x else y)
 either Q true x y = refl
 either Q false x y = refl
 

@@ -86,7 +86,12 @@ impl FieldOp {
     {
         match self {
             FieldOp::Retag(from, to) => retagged(alloc, on, from, to),
-            FieldOp::AddCase(literal, fields) => with_new_case(alloc, on, literal, fields.as_slice()),
+            FieldOp::AddCase(literal, fields) => with_new_case(
+                alloc,
+                on,
+                literal,
+                fields.as_slice(),
+            ),
             FieldOp::Rename(_, _)
             | FieldOp::Drop(_)
             | FieldOp::Add(_, _)

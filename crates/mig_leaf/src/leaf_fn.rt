@@ -6,9 +6,9 @@ ghost use Rattle.mig_model.specs.Const.{const_kind, const_tree};
 ghost use Rattle.mig_model.specs.Leaf.{is_whole_number, to_text, shown, read_or, leaf_out, leaf_value};
 ghost use Rattle.mig_leaf.specs.View.{const_of, leaf_fn_of};
 
-use crate::{Const, Table};
 use crate::number::{clamped, decimal, has_range, is_whole_number, number_of, spelled};
 use crate::text::{lowered, prefixed, stripped, text_of, translated};
+use crate::{Const, Table};
 use mig_tree::{Kind, Memory, Name, Text, Tree};
 use std::alloc::Global;
 

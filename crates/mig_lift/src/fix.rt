@@ -59,11 +59,7 @@ fn add<'a>(
 }
 
 /// Does the fix of a small chain to a map: one field gets another name, and one is added.
-pub fn fix<'a>(
-    alloc: Global,
-    chain: &'a SmallChain,
-    tree: &mut Tree<'a>,
-) -> Result<(), Memory>
+pub fn fix<'a>(alloc: Global, chain: &'a SmallChain, tree: &mut Tree<'a>) -> Result<(), Memory>
     requires { IsMap (plain_of tree.old) }
     ensures map { OnOk result (IsMap (plain_of tree.new)) }
     ensures fixed { OnOk result (plain_of tree.new

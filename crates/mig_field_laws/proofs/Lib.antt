@@ -1,0 +1,16 @@
+pub mod Stays
+pub mod Places
+pub mod Scopes
+pub mod Ops
+pub mod Nests
+pub mod Steps
+pub mod Sums
+pub mod Tallies
+pub mod Lighter
+pub mod Ascending
+pub mod Forms
+pub mod Records
+pub mod NewRecords
+pub mod Whole
+pub mod KeptRecords
+pub mod Laws

@@ -1,5 +1,5 @@
 -- A declaration is read with its own syntax, and what is read is a declaration.
-use Rattle.std.proofs.Common.{◌≡◌, inl, inr, ℕ, ℤ, List, [], ◌∷◌, ◌++◌, length, drop, Bool, true, false, Option, Some, None, refl, sym, ap, subst, ◌∙◌, append-nil, arith, eqb-true}
+use Rattle.std.proofs.Common.{◌≡◌, ◌⊎◌, inl, inr, ℕ, ℤ, List, [], ◌∷◌, ◌++◌, length, drop, Bool, true, false, Option, Some, None, refl, sym, ap, subst, ◌∙◌, append_assoc, append-nil, arith, eqb-true}
 use Rattle.std.specs.Prelude.{◌==◌}
 use Rattle.mig_model.specs.declared.form.Form.{Form}
 use Rattle.mig_model.specs.declared.form.Form.TheVariants as F
@@ -15,10 +15,10 @@ use Rattle.mig_syntax.specs.DeclSyntax.{FixSyntax, DeclSyntax}
 use Rattle.mig_parse.specs.Grammar as g
 use Rattle.mig_reader.specs.Grammar.{optional}
 use Rattle.mig_parse_template.specs.Grammar.{max_levels}
-use Rattle.mig_parse.specs.Grammar.{Declaration, missing}
-use Rattle.mig_reader.specs.Reading.{◌>>=◌, Fails, begins, behind, optional_at, name_at, text_at, number_at}
+use Rattle.mig_parse.specs.Grammar.{Declaration, Names, missing}
+use Rattle.mig_reader.specs.Reading.{◌>>=◌, Fails, begins, begins_text, behind, optional_at, name_at, text_at, number_at}
 use Rattle.mig_parse_template.specs.Reading.{template_at}
-use Rattle.mig_parse.specs.Reading.{fix_text_at, form_at, missing_at, version_at, schema_at, named_at, fix_at, declaration_at}
+use Rattle.mig_parse.specs.Reading.{fix_text_at, form_at, missing_at, further_name_at, names_at, version_at, schema_at, named_at, fix_at, declaration_at}
 use Rattle.mig_parse.specs.Law.{HasOneDeclaration}
 use Rattle.mig_reader.proofs.Fronts.{here, bind_some, Front, moved, Sound, begins_is, behind_is, name_is, text_is, number_is, optional_is}
 use Rattle.mig_parse_template.proofs.TemplateRead.{template_read}
@@ -37,10 +37,14 @@ json_read : declaration_at (mark M.Form ∷ mark M.Json ∷ []) ≡ here (decl.f
 unfolding declaration_at form_at
 json_read = refl
 
-version_read : (s : List ℕ) (n : Option ℤ) → declaration_at (mark M.Version ∷ text s ∷ missing n) ≡ here (decl.version s n) []
-unfolding declaration_at version_at missing_at
-version_read s None = refl
-version_read s (Some z) = refl
+version_read : {a : List Tok} {xs : List (List ℕ)} (n : Option ℤ) → Names a xs → declaration_at (mark M.Version ∷ (a ++ missing n)) ≡ here (decl.version xs n) []
+unfolding declaration_at version_at names_at further_name_at missing_at
+version_read None (g.one_name x) = refl
+version_read None (g.two_names x y) = refl
+version_read None (g.three_names x y z) = refl
+version_read (Some n) (g.one_name x) = refl
+version_read (Some n) (g.two_names x y) = refl
+version_read (Some n) (g.three_names x y z) = refl
 
 schema_read : (z : ℤ) (b : Bool) → declaration_at (mark M.Schema ∷ number z ∷ optional M.Follows b) ≡ here (decl.schema z b) []
 unfolding declaration_at schema_at
@@ -62,7 +66,7 @@ fix_read z a f e = rw e refl
 whole : {a : List Tok} {d : DeclSyntax} → Declaration a d → declaration_at a ≡ here d []
 whole g.form_nbt = nbt_read
 whole g.form_json = json_read
-whole (g.version s n) = version_read s n
+whole (g.version a xs n p) = version_read n p
 whole (g.schema z b) = schema_read z b
 whole (g.named n a t p) = named_read n a t (ap (template_at max_levels) (sym (append-nil a)) ∙ template_read p [] refl)
 whole (g.root n) = root_read n
@@ -99,14 +103,55 @@ missing_is ts n rest e = elim (chosen (begins M.Missing ts) _ _ (here n rest) e)
   | inr p ↦ ap (λ (x : Option ℤ × List Tok). missing x.0 ++ x.1) (same_Some (None, ts) (n, rest) p.1)
 ]
 
+-- no string comes, or one that is the last name
+abbrev Further : (xs ys : List (List ℕ)) (ts rest : List Tok) → Type 0
+Further xs ys ts rest = ((ys ≡ xs) × (ts ≡ rest)) ⊎ ((x : List ℕ) × (ys ≡ xs ++ x ∷ []) × (ts ≡ text x ∷ rest))
+
+further_is : (xs : List (List ℕ)) (ts : List Tok) (ys : List (List ℕ)) (rest : List Tok) → further_name_at xs ts ≡ here ys rest → Further xs ys ts rest
+unfolding further_name_at
+further_is xs ts ys rest e = elim (chosen (begins_text ts) _ _ (here ys rest) e) [
+  | inl p ↦
+      let b = bind_some (text_at ts) _ (ys, rest) p.1 in
+      let q = same_Some (xs ++ b.0.0 ∷ [], b.0.1) (ys, rest) b.2 in
+      let names : ys ≡ xs ++ b.0.0 ∷ [] = sym (ap (λ (x : List (List ℕ) × List Tok). x.0) q) in
+      let all : ts ≡ text b.0.0 ∷ rest = text_is ts b.0.0 b.0.1 b.1 ∙ ap (λ (x : List (List ℕ) × List Tok). text b.0.0 ∷ x.1) q in
+      inr (b.0.0, names, all)
+  | inr p ↦
+      let q = same_Some (xs, ts) (ys, rest) p.1 in
+      inl (sym (ap (λ (x : List (List ℕ) × List Tok). x.0) q), ap (λ (x : List (List ℕ) × List Tok). x.1) q)
+]
+
+these : (a ts rest : List Tok) (xs ys : List (List ℕ)) → ts ≡ a ++ rest → xs ≡ ys → Names a ys → Front (λ b. Names b xs) ts rest
+these a ts rest xs ys e p n = record { a = a; is = e; good = subst (λ (l : List (List ℕ)). Names a l) (sym p) n }
+
+names_sound : Sound names_at Names
+unfolding names_at
+names_sound ts xs rest e =
+    let s = bind_some (text_at ts) _ (xs, rest) e in
+    let f = bind_some (further_name_at (s.0.0 ∷ []) s.0.1) _ (xs, rest) s.2 in
+    let x = s.0.0 in
+    let behind_x : List Tok → List Tok = λ l. text x ∷ l in
+    let first : ts ≡ text x ∷ s.0.1 = text_is ts s.0.0 s.0.1 s.1 in
+    let last : Further f.0.0 xs f.0.1 rest = further_is f.0.0 f.0.1 xs rest f.2 in
+    elim (further_is (x ∷ []) s.0.1 f.0.0 f.0.1 f.1) [
+      | inl p ↦ elim last [
+        | inl q ↦ these (text x ∷ []) ts rest xs (x ∷ []) (first ∙ ap behind_x (p.1 ∙ q.1)) (q.0 ∙ p.0) (g.one_name x)
+        | inr q ↦ these (text x ∷ text q.0 ∷ []) ts rest xs (x ∷ q.0 ∷ []) (first ∙ ap behind_x (p.1 ∙ q.2)) (q.1 ∙ ap (λ (l : List (List ℕ)). l ++ q.0 ∷ []) p.0) (g.two_names x q.0)
+      ]
+      | inr p ↦ elim last [
+        | inl q ↦ these (text x ∷ text p.0 ∷ []) ts rest xs (x ∷ p.0 ∷ []) (first ∙ ap behind_x (p.2 ∙ ap (λ (l : List Tok). text p.0 ∷ l) q.1)) (q.0 ∙ p.1) (g.two_names x p.0)
+        | inr q ↦ these (text x ∷ text p.0 ∷ text q.0 ∷ []) ts rest xs (x ∷ p.0 ∷ q.0 ∷ []) (first ∙ ap behind_x (p.2 ∙ ap (λ (l : List Tok). text p.0 ∷ l) q.2)) (q.1 ∙ ap (λ (l : List (List ℕ)). l ++ q.0 ∷ []) p.1) (g.three_names x p.0 q.0)
+      ]
+    ]
+
 version_sound : (ts : List Tok) (d : DeclSyntax) (rest : List Tok) → version_at ts ≡ here d rest → Behind M.Version d ts rest
 unfolding version_at
 version_sound ts d rest e =
-    let s = bind_some (text_at ts) _ (d, rest) e in
+    let s = bind_some (names_at ts) _ (d, rest) e in
+    let f = names_sound ts s.0.0 s.0.1 s.1 in
     let n = bind_some (missing_at s.0.1) _ (d, rest) s.2 in
-    let all : mark M.Version ∷ ts ≡ mark M.Version ∷ text s.0.0 ∷ (missing n.0.0 ++ n.0.1) =
-    ap (λ (l : List Tok). mark M.Version ∷ l) (text_is ts s.0.0 s.0.1 s.1 ∙ ap (λ (l : List Tok). text s.0.0 ∷ l) (missing_is s.0.1 n.0.0 n.0.1 n.1)) in
-    moved (λ x a. Declaration a x) (decl.version s.0.0 n.0.0) d (mark M.Version ∷ text s.0.0 ∷ missing n.0.0) (mark M.Version ∷ ts) n.0.1 rest all (g.version s.0.0 n.0.0) n.2
+    let is : ts ≡ (f.a ++ missing n.0.0) ++ n.0.1 = f.is ∙ ap (λ (l : List Tok). f.a ++ l) (missing_is s.0.1 n.0.0 n.0.1 n.1) ∙ sym (append_assoc f.a (missing n.0.0) n.0.1) in
+    moved (λ x a. Declaration a x) (decl.version s.0.0 n.0.0) d (mark M.Version ∷ (f.a ++ missing n.0.0)) (mark M.Version ∷ ts) n.0.1 rest (ap (λ (l : List Tok). mark M.Version ∷ l) is) (g.version f.a s.0.0 n.0.0 f.good) n.2
 
 schema_sound : (ts : List Tok) (d : DeclSyntax) (rest : List Tok) → schema_at ts ≡ here d rest → Behind M.Schema d ts rest
 unfolding schema_at

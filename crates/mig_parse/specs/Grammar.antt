@@ -38,11 +38,17 @@ abbrev pub missing : Option ℤ → List Tok
 missing None = []
 missing (Some z) = mark M.Missing ∷ number z ∷ []
 
--- declaration = 'form' ('nbt' | 'json') | 'version' STRING ['missing' NUMBER] | 'schema' NUMBER ['follows'] | 'type' NAME = template | 'root' NAME | 'fix' NUMBER fix
+-- names = STRING [STRING [STRING]]
+pub data Names : List Tok → List (List ℕ) → Type 0 where
+  one_name : (x : List ℕ) → Names (text x ∷ []) (x ∷ [])
+  two_names : (x y : List ℕ) → Names (text x ∷ text y ∷ []) (x ∷ y ∷ [])
+  three_names : (x y z : List ℕ) → Names (text x ∷ text y ∷ text z ∷ []) (x ∷ y ∷ z ∷ [])
+
+-- declaration = 'form' ('nbt' | 'json') | 'version' names ['missing' NUMBER] | 'schema' NUMBER ['follows'] | 'type' NAME = template | 'root' NAME | 'fix' NUMBER fix
 pub data Declaration : List Tok → DeclSyntax → Type 0 where
   form_nbt : Declaration (mark M.Form ∷ mark M.Nbt ∷ []) (decl.form F.Nbt)
   form_json : Declaration (mark M.Form ∷ mark M.Json ∷ []) (decl.form F.Json)
-  version : (s : List ℕ) (n : Option ℤ) → Declaration (mark M.Version ∷ text s ∷ missing n) (decl.version s n)
+  version : (a : List Tok) (xs : List (List ℕ)) (n : Option ℤ) → Names a xs → Declaration (mark M.Version ∷ (a ++ missing n)) (decl.version xs n)
   schema : (z : ℤ) (b : Bool) → Declaration (mark M.Schema ∷ number z ∷ optional M.Follows b) (decl.schema z b)
   named : (n : List ℕ) (a : List Tok) (t : TemplateSyntax) → Template max_levels a t → Declaration (mark M.Type ∷ name n ∷ mark M.Equals ∷ a) (decl.named n t)
   root : (n : List ℕ) → Declaration (mark M.Root ∷ name n ∷ []) (decl.root n)

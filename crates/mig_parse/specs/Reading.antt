@@ -1,11 +1,11 @@
 -- Reading a declaration from left to right: what was read and the tokens after it, or nothing.
-use Rattle.std.specs.Prelude.{ℕ, ℤ, zero, suc, List, [], ◌∷◌, length, drop, Option, Some, None, if◌then◌else◌}
+use Rattle.std.specs.Prelude.{ℕ, ℤ, zero, suc, List, [], ◌∷◌, ◌++◌, length, drop, Option, Some, None, if◌then◌else◌}
 use Rattle.mig_model.specs.declared.form.Form.{Form}
 use Rattle.mig_model.specs.declared.form.Form.TheVariants as F
 use Rattle.mig_token.specs.declared.mark.Mark.TheVariants as M
 use Rattle.mig_syntax.specs.DeclSyntax as decl
 use Rattle.mig_syntax.specs.DeclSyntax.{StepSyntax, FixSyntax, DeclSyntax}
-use Rattle.mig_reader.specs.Reading.{◌>>=◌, Reader, begins, behind, optional_at, name_at, text_at, number_at, word}
+use Rattle.mig_reader.specs.Reading.{◌>>=◌, Reader, begins, begins_text, behind, optional_at, name_at, text_at, number_at, word}
 use Rattle.mig_parse_template.specs.Grammar.{max_levels}
 use Rattle.mig_parse_template.specs.Reading.{template_at}
 use Rattle.mig_parse_leaf.specs.Reading.{leaf_at}
@@ -25,11 +25,24 @@ missing_at ts =
       Some (Some z.0, z.1))
     else Some (None, ts)
 
+-- the names before, and one more where a string comes
+unfoldable pub further_name_at : List (List ℕ) → Reader (List (List ℕ))
+further_name_at xs ts = if begins_text ts then (do
+  x ← text_at ts
+  Some (xs ++ x.0 ∷ [], x.1)) else Some (xs, ts)
+
+-- one to three strings
+unfoldable pub names_at : Reader (List (List ℕ))
+names_at ts = do
+  x ← text_at ts
+  xs ← further_name_at (x.0 ∷ []) x.1
+  further_name_at xs.0 xs.1
+
 unfoldable pub version_at : Reader DeclSyntax
 version_at ts = do
-  s ← text_at ts
-  z ← missing_at s.1
-  Some (decl.version s.0 z.0, z.1)
+  xs ← names_at ts
+  z ← missing_at xs.1
+  Some (decl.version xs.0 z.0, z.1)
 
 unfoldable pub schema_at : Reader DeclSyntax
 schema_at ts = do

@@ -6,13 +6,13 @@ ghost use Rattle.mig_syntax.specs.DeclSyntax.{DeclSyntax};
 ghost use Rattle.mig_syntax.specs.DeclView.{decl_of};
 ghost use Rattle.mig_parse.specs.Grammar.{Declaration};
 ghost use Rattle.mig_reader.specs.Reading.{Gives};
-ghost use Rattle.mig_parse.specs.Reading.{form_at, missing_at, version_at, schema_at, named_at, fix_at, declaration_at};
+ghost use Rattle.mig_parse.specs.Reading.{form_at, missing_at, further_name_at, names_at, version_at, schema_at, named_at, fix_at, declaration_at};
 
 use crate::read_fix::fix_text_at;
-use mig_model::Form;
+use mig_model::{Form, Name};
 use mig_parse_template::template;
 use mig_reader::{
-    ParseError, begins, behind, behind_first, name_at, number_at, optional_at, text_at,
+    ParseError, begins, begins_text, behind, behind_first, name_at, number_at, optional_at, text_at,
 };
 use mig_syntax::Decl;
 use mig_token::{Mark, Token};
@@ -44,7 +44,40 @@ fn missing_at<'a, 't>(
     Ok((None, tokens))
 }
 
-/// The name of the field of the version, and the number after `missing`, behind `version`.
+/// The names before, and one more where a string comes.
+#[tactic(auto, unfolding(crate::specs::Reading::further_name_at))]
+fn further_name_at<'a, 't>(
+    alloc: Global,
+    names: Vec<Name>,
+    tokens: &'a [Token<'t>],
+) -> Result<(Vec<Name>, &'a [Token<'t>]), ParseError>
+    ensures { Gives (λ x. (x.0.items, toks x.1.now)) result (further_name_at names.items (toks tokens.now)) }
+{
+    if !begins_text(tokens) {
+        return Ok((names, tokens));
+    }
+    let mut names = names;
+    let (name, rest) = text_at(alloc, tokens)?;
+    names.push(name)?;
+    Ok((names, rest))
+}
+
+/// One to three strings.
+#[tactic(auto, unfolding(crate::specs::Reading::names_at))]
+fn names_at<'a, 't>(
+    alloc: Global,
+    tokens: &'a [Token<'t>],
+) -> Result<(Vec<Name>, &'a [Token<'t>]), ParseError>
+    ensures { Gives (λ x. (x.0.items, toks x.1.now)) result (names_at (toks tokens.now)) }
+{
+    let (name, rest) = text_at(alloc, tokens)?;
+    let mut names = Vec::new(alloc);
+    names.push(name)?;
+    let (names, rest) = further_name_at(alloc, names, rest)?;
+    further_name_at(alloc, names, rest)
+}
+
+/// The names that lead to the version, and the number after `missing`, behind `version`.
 #[tactic(auto, unfolding(crate::specs::Reading::version_at))]
 fn version_at<'a, 't>(
     alloc: Global,
@@ -52,9 +85,9 @@ fn version_at<'a, 't>(
 ) -> Result<(Decl, &'a [Token<'t>]), ParseError>
     ensures { Gives (λ x. (decl_of x.0, toks x.1.now)) result (version_at (toks tokens.now)) }
 {
-    let (name, rest) = text_at(alloc, tokens)?;
+    let (names, rest) = names_at(alloc, tokens)?;
     let (missing, rest) = missing_at(rest)?;
-    Ok((Decl::Version(name, missing), rest))
+    Ok((Decl::Version(names, missing), rest))
 }
 
 /// The version of a schema, and whether `follows` stands, behind `schema`.

@@ -1,3 +1,4 @@
+pub mod Cases
 pub mod Members
 pub mod TemplateRead
 pub mod TemplateSound

@@ -8,22 +8,29 @@ use Rattle.mig_syntax.specs.TemplateSyntax as template
 use Rattle.mig_syntax.specs.TemplateSyntax.{TemplateSyntax, FieldSyntax, CaseSyntax, CasesOfTag, fields_of, choice_of}
 use Rattle.mig_parse_template.specs.Grammar as g
 use Rattle.mig_reader.specs.Grammar.{kind_word, optional}
-use Rattle.mig_parse_template.specs.Grammar.{Part, Template, Members, Field, Fields, Braced, Case, Cases, Choice, comma_dots}
+use Rattle.mig_parse_template.specs.Grammar.{Part, Template, Members, Field, Fields, Braced, Case, Cases, Choice, comma_dots, comma_kept}
 use Rattle.mig_reader.specs.Reading.{Reader, begins, listed_at}
-use Rattle.mig_parse_template.specs.Reading.{field_at, braced_at, case_at, choice_at, comma_dots_at, last_choice_at, members_at, record_at, compound_at, part_at, template_at}
+use Rattle.mig_parse_template.specs.Reading.{field_at, braced_at, case_at, goes_on, cases_at, comma_kept_at, choice_at, comma_dots_at, last_choice_at, members_at, record_at, compound_at, part_at, template_at}
 use Rattle.mig_reader.proofs.Fronts.{here}
+use Rattle.mig_parse_template.proofs.Cases.{kept_after, no_further, cases_last, cases_more}
 use Rattle.mig_reader.proofs.Lists.{longer, comma_longer, listed_last, listed_more}
 
 -- a first member is no `}`
 no_end : {d : ℕ} {a : List Tok} {fs : List FieldSyntax} {c : Option CasesOfTag} {dots : Bool} → Members d a fs c dots → (rest : List Tok) → begins M.CurlyClose (a ++ rest) ≡ false
 no_end (g.dots d) rest = refl
-no_end (g.choice d a c dots (g.a_choice d' n b cs x)) rest = refl
+no_end (g.choice d a c dots (g.a_choice d' n b cs kept x)) rest = refl
 no_end (g.last_field d a f (g.a_field d' n may b t x)) rest = refl
 no_end (g.more_fields d a b f fs c dots (g.a_field d' n may e t x) m) rest = refl
 
 no_field_end : {d : ℕ} {a : List Tok} {fs : List FieldSyntax} → Fields d a fs → (rest : List Tok) → begins M.CurlyClose (a ++ rest) ≡ false
 no_field_end (g.one_field d a f (g.a_field d' n may b t x)) rest = refl
 no_field_end (g.further_fields d a b f fs (g.a_field d' n may e t x) m) rest = refl
+
+-- a further case isn't `else`
+case_follows : {d : ℕ} {a : List Tok} {cs : List CaseSyntax} → Cases d a cs → (rest : List Tok) → goes_on (mark M.Comma ∷ (a ++ rest)) ≡ true
+unfolding goes_on
+case_follows (g.last_case d a c (g.a_case d' n b fs x)) rest = refl
+case_follows (g.more_cases d a b c cs (g.a_case d' n e fs x) m) rest = refl
 
 no_dots : {d : ℕ} {a : List Tok} {f : FieldSyntax} → Field d a f → (rest : List Tok) → begins M.Dots (a ++ rest) ≡ false
 no_dots (g.a_field d n may a t x) rest = refl
@@ -86,11 +93,11 @@ unfolding comma_dots_at
 dots_after true rest h = refl
 dots_after false rest h = rw h refl
 
-choice_member : (T : Reader TemplateSyntax) (n : List ℕ) (k : ℕ) (ts us rest : List Tok) (cs : List CaseSyntax) (dots : Bool) → 0 < k → listed_at (case_at T) (length ts) ts ≡ here cs (mark M.CurlyClose ∷ us) → comma_dots_at us ≡ here dots rest
-    → members_at T k (mark M.Choice ∷ text n ∷ mark M.CurlyOpen ∷ ts) ≡ here ([], Some (n, cs), dots) rest
+choice_member : (T : Reader TemplateSyntax) (n : List ℕ) (k : ℕ) (ts ws us rest : List Tok) (cs : List CaseSyntax) (kept dots : Bool) → 0 < k → cases_at T (length ts) ts ≡ here cs ws → comma_kept_at ws ≡ here kept (mark M.CurlyClose ∷ us) → comma_dots_at us ≡ here dots rest
+    → members_at T k (mark M.Choice ∷ text n ∷ mark M.CurlyOpen ∷ ts) ≡ here ([], Some (n, (cs, kept)), dots) rest
 unfolding members_at last_choice_at choice_at
-choice_member T n zero ts us rest cs dots l e f = absurd (omega arith)
-choice_member T n (suc k) ts us rest cs dots l e f = rw (e, f) refl
+choice_member T n zero ts ws us rest cs kept dots l e f g = absurd (omega arith)
+choice_member T n (suc k) ts ws us rest cs kept dots l e f g = rw (e, f, g) refl
 
 last_read : (T : Reader TemplateSyntax) (n : ℕ) (a rest : List Tok) (f : FieldSyntax) → 0 < n → begins M.Dots a ≡ false → begins M.Choice a ≡ false → field_at T a ≡ here f rest → begins M.Comma rest ≡ false
     → members_at T n a ≡ here (f ∷ [], None, false) rest
@@ -123,7 +130,7 @@ some_tokens : {d : ℕ} {a : List Tok} {f : FieldSyntax} → Field d a f → 0 <
 some_tokens (g.a_field d n may a t x) = omega arith
 
 some_choice : {d : ℕ} {a : List Tok} {c : CasesOfTag} → Choice d a c → 0 < length a
-some_choice (g.a_choice d n a cs x) = omega arith
+some_choice (g.a_choice d n a cs kept x) = omega arith
 
 some_case : {d : ℕ} {a : List Tok} {c : CaseSyntax} → Case d a c → 0 < length a
 some_case (g.a_case d n a fs x) = omega arith
@@ -166,21 +173,23 @@ mutual
 
   choice_read : {d : ℕ} {a : List Tok} {c : CasesOfTag} → Choice d a c → (k : ℕ) (dots : Bool) (rest : List Tok) → 0 < k → begins M.Comma rest ≡ false
       → members_at (template_at d) k (a ++ (comma_dots dots ++ rest)) ≡ here ([], Some c, dots) rest
-  choice_read (g.a_choice d n b cs q) k dots rest l h =
+  choice_read (g.a_choice d n b cs kept q) k dots rest l h =
       let us = comma_dots dots ++ rest in
-      let ts = b ++ mark M.CurlyClose ∷ us in
-      let e : (b ++ mark M.CurlyClose ∷ []) ++ us ≡ ts = append_assoc b (mark M.CurlyClose ∷ []) us in
+      let ws = comma_kept kept ++ mark M.CurlyClose ∷ us in
+      let ts = b ++ ws in
+      let e : (b ++ (comma_kept kept ++ mark M.CurlyClose ∷ [])) ++ us ≡ ts =
+      append_assoc b (comma_kept kept ++ mark M.CurlyClose ∷ []) us ∙ ap (λ (x : List Tok). b ++ x) (append_assoc (comma_kept kept) (mark M.CurlyClose ∷ []) us) in
       ap (λ (x : List Tok). members_at (template_at d) k (mark M.Choice ∷ text n ∷ mark M.CurlyOpen ∷ x)) e
-      ∙ choice_member (template_at d) n k ts us rest cs dots l (cases_read q (length ts) (mark M.CurlyClose ∷ us) (longer b (mark M.CurlyClose ∷ us)) refl) (dots_after dots rest h)
+      ∙ choice_member (template_at d) n k ts ws us rest cs kept dots l (cases_read q (length ts) ws (longer b ws) (no_further kept us)) (kept_after kept us) (dots_after dots rest h)
 
-  cases_read : {d : ℕ} {a : List Tok} {cs : List CaseSyntax} → Cases d a cs → (n : ℕ) (rest : List Tok) → length a ≤ n → begins M.Comma rest ≡ false → listed_at (case_at (template_at d)) n (a ++ rest) ≡ here cs rest
-  cases_read (g.last_case d a c x) n rest l h = listed_last (case_at (template_at d)) n (a ++ rest) rest c (omega (arith, some_case x)) (case_read x rest) h
+  cases_read : {d : ℕ} {a : List Tok} {cs : List CaseSyntax} → Cases d a cs → (n : ℕ) (rest : List Tok) → length a ≤ n → goes_on rest ≡ false → cases_at (template_at d) n (a ++ rest) ≡ here cs rest
+  cases_read (g.last_case d a c x) n rest l h = cases_last (template_at d) n (a ++ rest) rest c (omega (arith, some_case x)) (case_read x rest) h
   cases_read (g.more_cases d a b c cs x m) zero rest l h = absurd (omega (arith, comma_longer a b))
   cases_read (g.more_cases d a b c cs x m) (suc n) rest l h =
       let us = mark M.Comma ∷ (b ++ rest) in
       let e : (a ++ mark M.Comma ∷ b) ++ rest ≡ a ++ us = append_assoc a (mark M.Comma ∷ b) rest in
-      ap (listed_at (case_at (template_at d)) (suc n)) e
-      ∙ listed_more (case_at (template_at d)) n (a ++ us) (b ++ rest) rest c cs (case_read x us) (cases_read m n rest (omega (arith, comma_longer a b)) h)
+      ap (cases_at (template_at d) (suc n)) e
+      ∙ cases_more (template_at d) n (a ++ us) (b ++ rest) rest c cs (case_read x us) (case_follows m rest) (cases_read m n rest (omega (arith, comma_longer a b)) h)
 
   case_read : {d : ℕ} {a : List Tok} {c : CaseSyntax} → Case d a c → (rest : List Tok) → case_at (template_at d) (a ++ rest) ≡ here c rest
   case_read (g.a_case d n a fs x) rest = one_case (template_at d) n (a ++ rest) rest fs (braced_read x rest)

@@ -8,9 +8,10 @@ use Rattle.mig_syntax.specs.TemplateSyntax.{TemplateSyntax, FieldSyntax, CaseSyn
 use Rattle.mig_reader.specs.Grammar as shared
 use Rattle.mig_parse_template.specs.Grammar as g
 use Rattle.mig_reader.specs.Grammar.{Listed, optional}
-use Rattle.mig_parse_template.specs.Grammar.{Part, Template, Members, Field, Fields, Braced, Case, Cases, Choice, comma_dots}
+use Rattle.mig_parse_template.specs.Grammar.{Part, Template, Members, Field, Fields, Braced, Case, Cases, Choice, comma_dots, comma_kept}
 use Rattle.mig_reader.specs.Reading.{◌>>=◌, Reader, begins, behind, optional_at, name_at, text_at, first_kind, listed_at}
-use Rattle.mig_parse_template.specs.Reading.{field_at, braced_at, case_at, choice_at, comma_dots_at, last_choice_at, MembersSyntax, members_at, record_at, compound_at, part_with, or_with, part_at, template_at}
+use Rattle.mig_parse_template.specs.Reading.{field_at, braced_at, case_at, goes_on, cases_at, comma_kept_at, choice_at, comma_dots_at, last_choice_at, MembersSyntax, members_at, record_at, compound_at, part_with, or_with, part_at, template_at}
+use Rattle.mig_parse_template.proofs.Cases.{is_comma}
 use Rattle.mig_reader.proofs.Lists.{listed_sound}
 use Rattle.mig_reader.proofs.Fronts.{here, bind_some, one_of, Front, moved, Sound, begins_is, behind_is, name_is, text_is, kind_is, then_mark, optional_is}
 use Rattle.std.proofs.lemmas.Option.{same_Some}
@@ -24,6 +25,18 @@ comma_dots_is ts dots rest e = elim (chosen (begins M.Comma ts) _ _ (here dots r
       let all : ts ≡ mark M.Comma ∷ mark M.Dots ∷ b.0 = begins_is M.Comma ts p.0 ∙ ap (λ (l : List Tok). mark M.Comma ∷ l) (behind_is M.Dots (drop 1 ts) b.0 b.1) in
       all ∙ ap (λ (x : Bool × List Tok). comma_dots x.0 ++ x.1) (same_Some (true, b.0) (dots, rest) b.2)
   | inr p ↦ ap (λ (x : Bool × List Tok). comma_dots x.0 ++ x.1) (same_Some (false, ts) (dots, rest) p.1)
+]
+
+comma_kept_is : (ts : List Tok) (kept : Bool) (rest : List Tok) → comma_kept_at ts ≡ here kept rest → ts ≡ comma_kept kept ++ rest
+unfolding comma_kept_at
+comma_kept_is ts kept rest e = elim (chosen (begins M.Comma ts) _ _ (here kept rest) e) [
+  | inl p ↦
+      let b = bind_some (behind M.Else (drop 1 ts)) _ (kept, rest) p.1 in
+      let c = bind_some (behind M.Kept b.0) _ (kept, rest) b.2 in
+      let words : drop 1 ts ≡ mark M.Else ∷ mark M.Kept ∷ c.0 = behind_is M.Else (drop 1 ts) b.0 b.1 ∙ ap (λ (l : List Tok). mark M.Else ∷ l) (behind_is M.Kept b.0 c.0 c.1) in
+      let all : ts ≡ mark M.Comma ∷ mark M.Else ∷ mark M.Kept ∷ c.0 = begins_is M.Comma ts p.0 ∙ ap (λ (l : List Tok). mark M.Comma ∷ l) words in
+      all ∙ ap (λ (x : Bool × List Tok). comma_kept x.0 ++ x.1) (same_Some (true, c.0) (kept, rest) c.2)
+  | inr p ↦ ap (λ (x : Bool × List Tok). comma_kept x.0 ++ x.1) (same_Some (false, ts) (kept, rest) p.1)
 ]
 
 module _ (d : ℕ) (T : Reader TemplateSyntax) (tsound : Sound T (Template d)) where
@@ -45,10 +58,6 @@ module _ (d : ℕ) (T : Reader TemplateSyntax) (tsound : Sound T (Template d)) w
   fields_from : {a : List Tok} {fs : List FieldSyntax} → Listed (Field d) a fs → Fields d a fs
   fields_from (shared.last a f x) = g.one_field d a f x
   fields_from (shared.more a b f fs x m) = g.further_fields d a b f fs x (fields_from m)
-
-  cases_from : {a : List Tok} {cs : List CaseSyntax} → Listed (Case d) a cs → Cases d a cs
-  cases_from (shared.last a c x) = g.last_case d a c x
-  cases_from (shared.more a b c cs x m) = g.more_cases d a b c cs x (cases_from m)
 
   pub braced_sound : Sound (braced_at T) (Braced d)
   unfolding braced_at
@@ -76,16 +85,36 @@ module _ (d : ℕ) (T : Reader TemplateSyntax) (tsound : Sound T (Template d)) w
       let all : ts ≡ (text n.0.0 ∷ s.a) ++ c2.0.1 = text_is ts n.0.0 n.0.1 n.1 ∙ ap (λ (l : List Tok). text n.0.0 ∷ l) (s.is) in
       moved (λ x a. Case d a x) (n.0.0, c2.0.0) c (text n.0.0 ∷ s.a) ts c2.0.1 rest all (g.a_case d n.0.0 s.a c2.0.0 s.good) c2.2
 
+  cases_sound : (n : ℕ) → Sound (cases_at T n) (Cases d)
+  unfolding cases_at
+  cases_sound zero ts cs rest e = absurd cc
+  cases_sound (suc n) ts cs rest e =
+      let b = bind_some (case_at T ts) _ (cs, rest) e in
+      let s = case_sound ts b.0.0 b.0.1 b.1 in
+      elim (chosen (goes_on b.0.1) _ _ (here cs rest) b.2) [
+        | inl p ↦
+            let c = bind_some (cases_at T n (drop 1 b.0.1)) _ (cs, rest) p.1 in
+            let r = cases_sound n (drop 1 b.0.1) c.0.0 c.0.1 c.1 in
+            let comma : b.0.1 ≡ mark M.Comma ∷ (r.a ++ c.0.1) = begins_is M.Comma b.0.1 (is_comma b.0.1 p.0) ∙ ap (λ (l : List Tok). mark M.Comma ∷ l) r.is in
+            let all : ts ≡ (s.a ++ mark M.Comma ∷ r.a) ++ c.0.1 = s.is ∙ ap (λ (l : List Tok). s.a ++ l) comma ∙ sym (append_assoc s.a (mark M.Comma ∷ r.a) c.0.1) in
+            moved (λ x a. Cases d a x) (b.0.0 ∷ c.0.0) cs (s.a ++ mark M.Comma ∷ r.a) ts c.0.1 rest all (g.more_cases d s.a r.a b.0.0 c.0.0 s.good r.good) c.2
+        | inr p ↦ moved (λ x a. Cases d a x) (b.0.0 ∷ []) cs s.a ts b.0.1 rest s.is (g.last_case d s.a b.0.0 s.good) p.1
+      ]
+
   choice_sound : Sound (choice_at T) (λ a c. Choice d (mark M.Choice ∷ a) c)
   unfolding choice_at
   choice_sound ts c rest e =
       let n = bind_some (text_at ts) _ (c, rest) e in
       let b = bind_some (behind M.CurlyOpen n.0.1) _ (c, rest) n.2 in
-      let c2 = bind_some (listed_at (case_at T) (length b.0) b.0) _ (c, rest) b.2 in
-      let s = listed_sound (case_at T) (Case d) case_sound (length b.0) b.0 c2.0.0 c2.0.1 c2.1 in
-      let b2 = bind_some (behind M.CurlyClose c2.0.1) _ (c, rest) c2.2 in
-      let all : ts ≡ (text n.0.0 ∷ mark M.CurlyOpen ∷ (s.a ++ mark M.CurlyClose ∷ [])) ++ b2.0 = text_is ts n.0.0 n.0.1 n.1 ∙ ap (λ (l : List Tok). text n.0.0 ∷ l) (behind_is M.CurlyOpen n.0.1 b.0 b.1 ∙ ap (λ (l : List Tok). mark M.CurlyOpen ∷ l) (s.is ∙ (ap (λ (l : List Tok). s.a ++ l) (behind_is M.CurlyClose c2.0.1 b2.0 b2.1) ∙ sym (append_assoc s.a (mark M.CurlyClose ∷ []) b2.0)))) in
-      moved (λ x a. Choice d (mark M.Choice ∷ a) x) (n.0.0, c2.0.0) c (text n.0.0 ∷ mark M.CurlyOpen ∷ (s.a ++ mark M.CurlyClose ∷ [])) ts b2.0 rest all (g.a_choice d n.0.0 s.a c2.0.0 (cases_from s.good)) b2.2
+      let c2 = bind_some (cases_at T (length b.0) b.0) _ (c, rest) b.2 in
+      let s = cases_sound (length b.0) b.0 c2.0.0 c2.0.1 c2.1 in
+      let k = bind_some (comma_kept_at c2.0.1) _ (c, rest) c2.2 in
+      let b2 = bind_some (behind M.CurlyClose k.0.1) _ (c, rest) k.2 in
+      let end : List Tok = comma_kept k.0.0 ++ mark M.CurlyClose ∷ [] in
+      let after : c2.0.1 ≡ end ++ b2.0 = then_mark (comma_kept k.0.0) c2.0.1 k.0.1 b2.0 M.CurlyClose (comma_kept_is c2.0.1 k.0.0 k.0.1 k.1) (behind_is M.CurlyClose k.0.1 b2.0 b2.1) in
+      let within : b.0 ≡ (s.a ++ end) ++ b2.0 = s.is ∙ ap (λ (l : List Tok). s.a ++ l) after ∙ sym (append_assoc s.a end b2.0) in
+      let all : ts ≡ (text n.0.0 ∷ mark M.CurlyOpen ∷ (s.a ++ end)) ++ b2.0 = text_is ts n.0.0 n.0.1 n.1 ∙ ap (λ (l : List Tok). text n.0.0 ∷ l) (behind_is M.CurlyOpen n.0.1 b.0 b.1 ∙ ap (λ (l : List Tok). mark M.CurlyOpen ∷ l) within) in
+      moved (λ x a. Choice d (mark M.Choice ∷ a) x) (n.0.0, (c2.0.0, k.0.0)) c (text n.0.0 ∷ mark M.CurlyOpen ∷ (s.a ++ end)) ts b2.0 rest all (g.a_choice d n.0.0 s.a c2.0.0 k.0.0 s.good) b2.2
 
   -- ---- members
   last_choice_sound : Sound (last_choice_at T) (λ a x. Members d (mark M.Choice ∷ a) [] (Some x.0) x.1)

@@ -18,6 +18,11 @@ abbrev pub comma_dots : Bool → List Tok
 comma_dots true = mark M.Comma ∷ mark M.Dots ∷ []
 comma_dots false = []
 
+-- [, 'else' 'kept']
+abbrev pub comma_kept : Bool → List Tok
+comma_kept true = mark M.Comma ∷ mark M.Else ∷ mark M.Kept ∷ []
+comma_kept false = []
+
 mutual
   -- part = kind | 'any' | 'list' part | { [members] } | NAME | ( template )
   pub data Part : ℕ → List Tok → TemplateSyntax → Type 0 where
@@ -45,9 +50,9 @@ mutual
   pub data Field : ℕ → List Tok → FieldSyntax → Type 0 where
     a_field : (d : ℕ) (n : List ℕ) (may : Bool) (a : List Tok) (t : TemplateSyntax) → Template d a t → Field d (text n ∷ (optional M.Question may ++ mark M.Colon ∷ a)) (n, (may, t))
 
-  -- choice = 'choice' STRING { cases }
+  -- choice = 'choice' STRING { cases [, 'else' 'kept'] }
   pub data Choice : ℕ → List Tok → CasesOfTag → Type 0 where
-    a_choice : (d : ℕ) (n : List ℕ) (a : List Tok) (cs : List CaseSyntax) → Cases d a cs → Choice d (mark M.Choice ∷ text n ∷ mark M.CurlyOpen ∷ (a ++ mark M.CurlyClose ∷ [])) (n, cs)
+    a_choice : (d : ℕ) (n : List ℕ) (a : List Tok) (cs : List CaseSyntax) (kept : Bool) → Cases d a cs → Choice d (mark M.Choice ∷ text n ∷ mark M.CurlyOpen ∷ (a ++ (comma_kept kept ++ mark M.CurlyClose ∷ []))) (n, (cs, kept))
 
   -- cases = case [, cases]
   pub data Cases : ℕ → List Tok → List CaseSyntax → Type 0 where

@@ -1,5 +1,5 @@
 -- Reading a template from left to right: what was read and the tokens after it, or nothing.
-use Rattle.std.specs.Prelude.{ℕ, zero, suc, List, [], ◌∷◌, ◌++◌, length, drop, Bool, true, false, Option, Some, None, if◌then◌else◌}
+use Rattle.std.specs.Prelude.{ℕ, zero, suc, List, [], ◌∷◌, ◌++◌, length, drop, Bool, true, false, not, ◌&&◌, Option, Some, None, if◌then◌else◌}
 use Rattle.mig_token.specs.declared.mark.Mark.TheVariants as M
 use Rattle.mig_token.specs.Token.{Tok}
 use Rattle.mig_syntax.specs.TemplateSyntax as template
@@ -29,14 +29,35 @@ case_at T ts = do
   fs ← braced_at T n.1
   Some ((n.0, fs.0), fs.1)
 
+-- whether a comma comes and no `else` behind it, so that a further case has to come
+unfoldable pub goes_on : List Tok → Bool
+goes_on ts = begins M.Comma ts && not (begins M.Else (drop 1 ts))
+
+-- one or more cases, with commas between them; n bounds them
+unfoldable pub cases_at : Reader TemplateSyntax → ℕ → Reader (List CaseSyntax)
+cases_at T zero ts = None
+cases_at T (suc n) ts = do
+  c ← case_at T ts
+  if goes_on c.1 then (do
+    cs ← cases_at T n (drop 1 c.1)
+    Some (c.0 ∷ cs.0, cs.1)) else Some (c.0 ∷ [], c.1)
+
+-- whether a comma comes, behind which `else kept` has to stand
+unfoldable pub comma_kept_at : Reader Bool
+comma_kept_at ts = if begins M.Comma ts then (do
+  start ← behind M.Else (drop 1 ts)
+  rest ← behind M.Kept start
+  Some (true, rest)) else Some (false, ts)
+
 -- behind `choice`
 unfoldable pub choice_at : Reader TemplateSyntax → Reader CasesOfTag
 choice_at T ts = do
   n ← text_at ts
   start ← behind M.CurlyOpen n.1
-  cs ← listed_at (case_at T) (length start) start
-  rest ← behind M.CurlyClose cs.1
-  Some ((n.0, cs.0), rest)
+  cs ← cases_at T (length start) start
+  kept ← comma_kept_at cs.1
+  rest ← behind M.CurlyClose kept.1
+  Some ((n.0, (cs.0, kept.0)), rest)
 
 -- whether a comma comes, behind which `..` has to stand
 unfoldable pub comma_dots_at : Reader Bool

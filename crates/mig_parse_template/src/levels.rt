@@ -3,7 +3,7 @@ ghost use Rattle.std.specs.Prelude.{◌≡◌, length, map};
 ghost use Rattle.mig_token.specs.Token.{toks};
 ghost use Rattle.mig_syntax.specs.TemplateView.{template_of, field_of, case_of};
 ghost use Rattle.mig_reader.specs.Reading.{Gives, listed_at};
-ghost use Rattle.mig_parse_template.specs.Reading.{field_at, braced_at, case_at, choice_at, comma_dots_at, last_choice_at, members_at, record_at, compound_at, part_at, template_at};
+ghost use Rattle.mig_parse_template.specs.Reading.{field_at, braced_at, case_at, goes_on, cases_at, comma_kept_at, choice_at, comma_dots_at, last_choice_at, members_at, record_at, compound_at, part_at, template_at};
 
 use mig_reader::{
     ParseError, begins, behind, behind_first, first_kind, name_at, optional_at, text_at,
@@ -95,7 +95,15 @@ fn case_at<'a, 't>(
     Ok((CaseText { literal, fields }, rest))
 }
 
-/// Cases parted by commas. Each turn takes a token at least, so the count of the tokens bounds the turns.
+/// Whether a comma comes and no `else` behind it, so that a further case has to come.
+#[tactic(auto, unfolding(crate::specs::Reading::goes_on))]
+fn goes_on(tokens: &[Token]) -> bool
+    ensures { result ≡ goes_on (toks tokens.now) }
+{
+    begins(Mark::Comma, tokens) && !begins(Mark::Else, behind_first(tokens))
+}
+
+/// Cases parted by commas, up to one that leads to no further case. Each turn takes a token at least, so the count of the tokens bounds the turns.
 #[cycle(part)]
 fn cases_at<'a, 't>(
     alloc: Global,
@@ -103,19 +111,32 @@ fn cases_at<'a, 't>(
     tokens: &'a [Token<'t>],
 ) -> Result<(Vec<CaseText>, &'a [Token<'t>]), ParseError>
     ensures { Gives (λ x. (map case_of x.0.items, toks x.1.now)) result
-        (listed_at (case_at (template_at levels)) (length tokens.now) (toks tokens.now)) }
+        (cases_at (template_at levels) (length tokens.now) (toks tokens.now)) }
 {
     let mut cases = Vec::new(alloc);
     let mut rest = tokens;
     for _ in 0..tokens.len() {
         let (case, after) = case_at(alloc, levels, rest)?;
         cases.push(case)?;
-        if !begins(Mark::Comma, after) {
+        if !goes_on(after) {
             return Ok((cases, after));
         }
         rest = behind_first(after);
     }
     Err(ParseError::Wrong)
+}
+
+/// Whether a comma comes, behind which `else kept` has to stand.
+#[tactic(auto, unfolding(crate::specs::Reading::comma_kept_at))]
+fn comma_kept_at<'a, 't>(tokens: &'a [Token<'t>]) -> Result<(bool, &'a [Token<'t>]), ParseError>
+    ensures { Gives (λ x. (x.0, toks x.1.now)) result (comma_kept_at (toks tokens.now)) }
+{
+    if begins(Mark::Comma, tokens) {
+        let rest = behind(Mark::Else, behind_first(tokens))?;
+        let rest = behind(Mark::Kept, rest)?;
+        return Ok((true, rest));
+    }
+    Ok((false, tokens))
 }
 
 /// A choice behind its first word.
@@ -131,8 +152,9 @@ fn choice_at<'a, 't>(
     let (tag, rest) = text_at(alloc, tokens)?;
     let rest = behind(Mark::CurlyOpen, rest)?;
     let (cases, rest) = cases_at(alloc, levels, rest)?;
+    let (kept, rest) = comma_kept_at(rest)?;
     let rest = behind(Mark::CurlyClose, rest)?;
-    Ok((ChoiceText::new(tag, cases), rest))
+    Ok((ChoiceText::new(tag, cases, kept), rest))
 }
 
 /// Whether a comma comes, behind which `..` has to stand.

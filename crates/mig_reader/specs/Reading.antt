@@ -39,6 +39,11 @@ abbrev pub begins : Mark → List Tok → Bool
 begins m (mark n ∷ ts) = is_same m n
 begins m _ = false
 
+-- whether the first token is a string
+abbrev pub begins_text : List Tok → Bool
+begins_text (text n ∷ ts) = true
+begins_text _ = false
+
 -- the tokens behind this mark
 abbrev pub behind : Mark → List Tok → Option (List Tok)
 behind m ts = if begins m ts then Some (drop 1 ts) else None

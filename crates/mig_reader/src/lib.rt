@@ -6,6 +6,6 @@ mod tokens;
 
 pub use error::ParseError;
 pub use tokens::{
-    begins, behind, behind_first, first_kind, kind_at, kind_or_any_at, name_at, number_at,
-    optional_at, text_at,
+    begins, begins_text, behind, behind_first, first_kind, kind_at, kind_or_any_at, name_at,
+    number_at, optional_at, text_at,
 };

@@ -2,7 +2,7 @@
 ghost use Rattle.std.specs.Prelude.{◌≡◌, drop};
 ghost use Rattle.mig_token.specs.Token.{toks};
 ghost use Rattle.mig_reader.specs.Grammar.{kind_word};
-ghost use Rattle.mig_reader.specs.Reading.{Gives, begins, behind, optional_at, name_at, text_at, number_at, first_kind, kind_at, kind_or_any_at};
+ghost use Rattle.mig_reader.specs.Reading.{Gives, begins, begins_text, behind, optional_at, name_at, text_at, number_at, first_kind, kind_at, kind_or_any_at};
 
 use crate::error::ParseError;
 use mig_model::{Kind, Name};
@@ -37,6 +37,16 @@ pub fn begins(mark: Mark, tokens: &[Token]) -> bool
 {
     match tokens {
         [Token::Mark(first), ..] => mark.is(*first),
+        _ => false,
+    }
+}
+
+/// Whether the first token is a string.
+pub fn begins_text(tokens: &[Token]) -> bool
+    ensures { result ≡ begins_text (toks tokens.now) }
+{
+    match tokens {
+        [Token::Text(_), ..] => true,
         _ => false,
     }
 }

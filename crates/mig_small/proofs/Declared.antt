@@ -57,21 +57,21 @@ module _ (piece : List ℕ) (d : DeclSyntax) (one : One (IsDeclared piece) d) wh
   pub head_other : ((z : ℤ) → d ≡ decl.schema z false → ⊥) → (n : ℕ) → IsHead piece n → ⊥
   head_other other n q = other (pos n) (sym (one.1 (decl.schema (pos n) false) q.1))
 
-  same_version : (s : List ℕ) (z : Option ℤ) (v : List ℕ × Option ℕ) (q : IsVersion piece v) → d ≡ decl.version s z → (v.0 ≡ s) × (q.0 ≡ z)
-  same_version s z v q e = let h : decl.version v.0 q.0 ≡ decl.version s z = one.1 (decl.version v.0 q.0) q.1 ∙ e in (cc, cc)
+  same_version : (s : List ℕ) (z : Option ℤ) (v : List ℕ × Option ℕ) (q : IsVersion piece v) → d ≡ decl.version (s ∷ []) z → (v.0 ≡ s) × (q.0 ≡ z)
+  same_version s z v q e = let h : decl.version (v.0 ∷ []) q.0 ≡ decl.version (s ∷ []) z = one.1 (decl.version (v.0 ∷ []) q.0) q.1 ∙ e in (cc, cc)
 
-  pub version_found : (s : List ℕ) (z : Option ℤ) (n : Option ℕ) → d ≡ decl.version s z → One (IsMissing z) n → One (IsVersion piece) (s, n)
+  pub version_found : (s : List ℕ) (z : Option ℤ) (n : Option ℕ) → d ≡ decl.version (s ∷ []) z → One (IsMissing z) n → One (IsVersion piece) (s, n)
   version_found s z n e p = (
     (z, subst (IsDeclared piece) e one.0, p.0),
     λ v q. let same = same_version s z v q e in
         λ i. (same.0 i, p.1 v.1 (subst (λ x. IsMissing x v.1) same.1 q.2) i),
   )
 
-  pub version_missing : (s : List ℕ) (z : Option ℤ) → d ≡ decl.version s z → (v : List ℕ × Option ℕ) → IsVersion piece v → (n : Option ℕ) × IsMissing z n
+  pub version_missing : (s : List ℕ) (z : Option ℤ) → d ≡ decl.version (s ∷ []) z → (v : List ℕ × Option ℕ) → IsVersion piece v → (n : Option ℕ) × IsMissing z n
   version_missing s z e v q = (v.1, subst (λ x. IsMissing x v.1) (same_version s z v q e).1 q.2)
 
-  pub version_other : ((s : List ℕ) (z : Option ℤ) → d ≡ decl.version s z → ⊥) → (v : List ℕ × Option ℕ) → IsVersion piece v → ⊥
-  version_other other v q = other v.0 q.0 (sym (one.1 (decl.version v.0 q.0) q.1))
+  pub version_other : ((s : List ℕ) (z : Option ℤ) → d ≡ decl.version (s ∷ []) z → ⊥) → (v : List ℕ × Option ℕ) → IsVersion piece v → ⊥
+  version_other other v q = other v.0 q.0 (sym (one.1 (decl.version (v.0 ∷ []) q.0) q.1))
 
   module _ (form : Form) where
     same_record : (n : List ℕ) (fs : List FieldSyntax) (r : List ℕ × List LeafField) (q : IsRecordPiece form piece r) → d ≡ named_record n fs → (r.0 ≡ n) × (q.0 ≡ fs)

@@ -1,4 +1,5 @@
 pub mod Found
+pub mod OneName
 pub mod Declared
 pub mod Sorted
 pub mod Leaves

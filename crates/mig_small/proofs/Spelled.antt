@@ -19,7 +19,7 @@ use Rattle.mig_parse.specs.Grammar as g
 use Rattle.mig_parse_leaf.specs.Grammar.{Const}
 use Rattle.mig_parse_function.specs.Grammar.{Fill, Function}
 use Rattle.mig_parse_rule.specs.Grammar.{Rule, Rules}
-use Rattle.mig_parse.specs.Grammar.{Fix, Declaration}
+use Rattle.mig_parse.specs.Grammar.{Fix, Names, Declaration}
 use Rattle.mig_small.specs.Small.{IsSpelled, IsSpelledConst}
 use Rattle.mig_small.specs.SmallText.{Means}
 use Rattle.mig_small.specs.Pieces.{IsDeclared}
@@ -79,7 +79,7 @@ SpelledFix (decl.rule r) = SpelledRule r
 SpelledFix _ = Unit {0}
 
 abbrev pub SpelledDeclaration : DeclSyntax → Type 0
-SpelledDeclaration (decl.version s z) = IsSpelled s
+SpelledDeclaration (decl.version xs z) = AllByRecursion IsSpelled xs
 SpelledDeclaration (decl.fix z f) = SpelledFix f
 SpelledDeclaration d = Unit {0}
 
@@ -111,8 +111,13 @@ spelled_fix : (a : List Tok) (f : FixSyntax) → Fix a f → Spelt a → Spelled
 spelled_fix a f (g.a_rule b r p) h = spelled_rule _ b r p h
 spelled_fix a f _ h = tt
 
+spelled_names : (a : List Tok) (xs : List (List ℕ)) → Names a xs → Spelt a → AllByRecursion IsSpelled xs
+spelled_names a xs (g.one_name x) h = (h.0, tt)
+spelled_names a xs (g.two_names x y) h = (h.0, (h.1.0, tt))
+spelled_names a xs (g.three_names x y z) h = (h.0, (h.1.0, (h.1.1.0, tt)))
+
 spelled_declaration : (a : List Tok) (d : DeclSyntax) → Declaration a d → Spelt a → SpelledDeclaration d
-spelled_declaration a d (g.version s n) h = h.1.0
+spelled_declaration a d (g.version b xs n p) h = spelled_names b xs p (front_spelt b _ h.1)
 spelled_declaration a d (g.fix z b f p) h = spelled_fix b f p h.1.1
 spelled_declaration a d _ h = tt
 

@@ -49,7 +49,7 @@ kept p s n =
       accepted = pieces_accepted p s n;
       before = n.before.named.2.ascend;
       after = n.after.named.2.ascend;
-      version = spelled p.version (decl.version s.version n.version.0) n.version.1;
+      version = (spelled p.version (decl.version (s.version ∷ []) n.version.0) n.version.1).0;
       new_name = strings.new_name;
       added = strings.added;
       constant = strings.constant;
@@ -67,7 +67,7 @@ whole text rest p s short cuts blank n =
     record {
       pieces = in_order p;
       rest = rest;
-      declarations = decl.form s.form ∷ decl.version s.version n.version.0 ∷ decl.schema (pos s.first) _ ∷ decl.named s.root (template.record_of (fields_of b.0) _ _) ∷ decl.root s.root
+      declarations = decl.form s.form ∷ decl.version (s.version ∷ []) n.version.0 ∷ decl.schema (pos s.first) _ ∷ decl.named s.root (template.record_of (fields_of b.0) _ _) ∷ decl.root s.root
           ∷ decl.fix (pos s.second) (decl.rule (rule.seq (rules_of f.0))) ∷ decl.schema (pos s.second) _ ∷ decl.named s.root (template.record_of (fields_of a.0) _ _) ∷ decl.root s.root ∷ [];
       short = short;
       cuts = cuts;
@@ -92,7 +92,7 @@ whole text rest p s short cuts blank n =
         added = s.added;
         constant = add.0;
         meant = s.constant;
-        nine = ap (λ rs. decl.form s.form ∷ decl.version s.version n.version.0 ∷ decl.schema (pos s.first) false ∷ decl.named s.root (template.record_of (fields_of b.0) template.no_choice true) ∷ decl.root s.root
+        nine = ap (λ rs. decl.form s.form ∷ decl.version (s.version ∷ []) n.version.0 ∷ decl.schema (pos s.first) false ∷ decl.named s.root (template.record_of (fields_of b.0) template.no_choice true) ∷ decl.root s.root
             ∷ decl.fix (pos s.second) (decl.rule (rule.seq (rules_of rs))) ∷ decl.schema (pos s.second) false ∷ decl.named s.root (template.record_of (fields_of a.0) template.no_choice true) ∷ decl.root s.root ∷ []) (e.2 ∙ (λ i. e.3 i ∷ add.1 i ∷ []));
         path = refl;
         is_missing = n.version.2;

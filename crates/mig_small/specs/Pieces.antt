@@ -36,9 +36,9 @@ Offers view P (Some x) = P (view x)
 abbrev pub IsDeclared : List ℕ → DeclSyntax → Type 0
 IsDeclared piece d = (ts : List Tok) × AreTokens piece ts × Declaration ts d
 
--- `version`, with a number in range after `missing`
+-- `version` of one name, with a number in range after `missing`
 abbrev pub IsVersion : List ℕ → List ℕ × Option ℕ → Type 0
-IsVersion piece v = (z : Option ℤ) × IsDeclared piece (decl.version v.0 z) × IsMissing z v.1
+IsVersion piece v = (z : Option ℤ) × IsDeclared piece (decl.version (v.0 ∷ []) z) × IsMissing z v.1
 
 -- `schema` of a version in range
 abbrev pub IsHead : List ℕ → ℕ → Type 0

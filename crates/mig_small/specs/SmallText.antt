@@ -82,7 +82,7 @@ pub record Spells (ds : List DeclSyntax) (c : Chain) : Type 0 where
   pub constant : ConstSyntax
   pub meant : Const
   pub nine : ds
-      ≡ decl.form c.form ∷ decl.version version missing
+      ≡ decl.form c.form ∷ decl.version (version ∷ []) missing
       ∷ decl.schema (pos first) false ∷ decl.named named (template.record_of (fields_of fields) template.no_choice true) ∷ decl.root root
       ∷ decl.fix (pos number) (decl.rule (rule.seq (rules_of (rule.function None (rule.rename old_name new_name) ∷ rule.function None (rule.add added (rule.const constant)) ∷ []))))
       ∷ decl.schema (pos second) false ∷ decl.named named_again (template.record_of (fields_of fields_again) template.no_choice true) ∷ decl.root root_again ∷ []

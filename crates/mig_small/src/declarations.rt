@@ -60,7 +60,7 @@ fn missing_number(missing: Option<i128>) -> Result<Option<u32>, SmallFault>
     }
 }
 
-/// The name of the field of the version, and the version of a save that has none.
+/// The only name that leads to the version, and the version of a save that has none.
 pub(crate) fn version_declared(
     alloc: Global,
     piece: &[u8],

@@ -1,5 +1,5 @@
 //! What a declaration of one shape holds.
-ghost use Rattle.std.specs.Prelude.{◌≡◌, ℕ, List, true, false};
+ghost use Rattle.std.specs.Prelude.{◌≡◌, ℕ, ℤ, List, [], ◌∷◌, Option, true, false};
 ghost use Rattle.mig_syntax.specs.DeclSyntax as decl;
 ghost use Rattle.mig_syntax.specs.DeclView.{decl_of};
 ghost use Rattle.mig_syntax.specs.TemplateSyntax.{TemplateSyntax, fields_of, record_of, no_choice};
@@ -24,17 +24,38 @@ pub(crate) fn as_form(declared: Decl) -> Option<Form>
     }
 }
 
-/// The name and the number after `missing`, of a declaration of the version.
-pub(crate) fn as_version(declared: Decl) -> Option<(Name, Option<i128>)>
-    ensures { Offers (λ v. v) (λ v. decl_of declared ≡ decl.version v.0 v.1) result }
+/// The names and the number after `missing`, of a declaration of the version.
+fn as_names(declared: Decl) -> Option<(Vec<Name>, Option<i128>)>
+    ensures { Offers {Y = List (List ℕ) × Option ℤ} (λ v. (v.0.items, v.1))
+        (λ v. decl_of declared ≡ decl.version v.0 v.1) result }
 {
     match declared {
-        Decl::Version(name, missing) => Some((name, missing)),
+        Decl::Version(names, missing) => Some((names, missing)),
         other => {
             drop(other);
             None
         }
     }
+}
+
+/// The only name.
+fn only_name(names: Vec<Name>) -> Option<Name>
+    ensures { Offers (λ n. n) (λ n. names.items ≡ n ∷ []) result }
+{
+    if names.len() != 1 {
+        return None;
+    }
+    let mut names = names;
+    names.pop()
+}
+
+/// The only name and the number after `missing`, of a declaration of the version.
+pub(crate) fn as_version(declared: Decl) -> Option<(Name, Option<i128>)>
+    ensures { Offers (λ v. v) (λ v. decl_of declared ≡ decl.version (v.0 ∷ []) v.1) result }
+{
+    let (names, missing) = as_names(declared)?;
+    let name = only_name(names)?;
+    Some((name, missing))
 }
 
 /// The version of a schema that doesn't follow.

@@ -22,8 +22,8 @@ pub data FixSyntax : Type 0 where
 
 pub data DeclSyntax : Type 0 where
   form : Form → DeclSyntax
-  -- the number after `missing`, if any
-  version : List ℕ → Option ℤ → DeclSyntax
+  -- the names that lead to the version, and the number after `missing`, if any
+  version : List (List ℕ) → Option ℤ → DeclSyntax
   -- whether `follows` stands
   schema : ℤ → Bool → DeclSyntax
   named : List ℕ → TemplateSyntax → DeclSyntax

@@ -26,7 +26,7 @@ fix_of (F.Rule r) = syntax.rule (rule_of r)
 
 abbrev pub decl_of : Decl → DeclSyntax
 decl_of (D.Form f) = syntax.form f
-decl_of (D.Version s z) = syntax.version s z
+decl_of (D.Version xs z) = syntax.version xs.items z
 decl_of (D.Schema z follows) = syntax.schema z follows
 decl_of (D.Named n t) = syntax.named n (template_of t)
 decl_of (D.Root n) = syntax.root n

@@ -28,7 +28,7 @@ abbrev mutual
 
   pub code_choice : ChoiceSyntax → Gv
   code_choice no_choice = gnil
-  code_choice (choice n cs) = gcons (coded_name.code n) (code_cases cs)
+  code_choice (choice n cs kept) = gcons (coded_name.code n) (gcons (coded_bool.code kept) (code_cases cs))
 
   pub code_cases : CasesSyntax → Gv
   code_cases no_case = gnil
@@ -62,7 +62,11 @@ mutual
 
   pub inj_choice : (x y : ChoiceSyntax) → code_choice x ≡ code_choice y → x ≡ y
   inj_choice no_choice no_choice p = refl
-  inj_choice (choice n cs) (choice m ds) p = ap₂ choice (coded_name.inj n m (ap head p)) (inj_cases cs ds (ap tail p))
+  inj_choice (choice n cs a) (choice m ds b) p =
+      let same_tag : n ≡ m = coded_name.inj n m (ap head p) in
+      let same_cases : cs ≡ ds = inj_cases cs ds (ap other p) in
+      let same_kept : a ≡ b = coded_bool.inj a b (ap one p) in
+      cc
   inj_choice _ _ p = cc
 
   pub inj_cases : (x y : CasesSyntax) → code_cases x ≡ code_cases y → x ≡ y
@@ -81,4 +85,4 @@ abbrev pub coded_field_list : Coded (List FieldSyntax)
 coded_field_list = coded_list (coded× coded_name (coded× coded_bool coded_template))
 
 abbrev pub coded_cases_of_tag : Coded CasesOfTag
-coded_cases_of_tag = coded× coded_name (coded_list (coded× coded_name coded_field_list))
+coded_cases_of_tag = coded× coded_name (coded× (coded_list (coded× coded_name coded_field_list)) coded_bool)

@@ -18,8 +18,8 @@ mutual
 
   pub data ChoiceSyntax : Type 0 where
     no_choice : ChoiceSyntax
-    -- the name of the tag, and the cases
-    choice : List ℕ → CasesSyntax → ChoiceSyntax
+    -- the name of the tag, the cases, and whether `else kept` stands
+    choice : List ℕ → CasesSyntax → Bool → ChoiceSyntax
 
   pub data CasesSyntax : Type 0 where
     no_case : CasesSyntax
@@ -38,9 +38,9 @@ fields_of (f ∷ fs) = field f.0 f.1.0 f.1.1 (fields_of fs)
 abbrev pub CaseSyntax : Type 0
 CaseSyntax = List ℕ × List FieldSyntax
 
--- the name of a tag, and the cases
+-- the name of a tag, the cases, and whether `else kept` stands
 abbrev pub CasesOfTag : Type 0
-CasesOfTag = List ℕ × List CaseSyntax
+CasesOfTag = List ℕ × (List CaseSyntax × Bool)
 
 abbrev pub cases_of : List CaseSyntax → CasesSyntax
 cases_of [] = no_case
@@ -48,7 +48,7 @@ cases_of (c ∷ cs) = case c.0 (fields_of c.1) (cases_of cs)
 
 abbrev pub choice_of : Option CasesOfTag → ChoiceSyntax
 choice_of None = no_choice
-choice_of (Some c) = choice c.0 (cases_of c.1)
+choice_of (Some c) = choice c.0 (cases_of c.1.0) c.1.1
 
 abbrev mutual
   pub template_size : TemplateSyntax → ℕ
@@ -63,7 +63,7 @@ abbrev mutual
 
   pub choice_size : ChoiceSyntax → ℕ
   choice_size no_choice = 0
-  choice_size (choice n cs) = suc (cases_size cs)
+  choice_size (choice n cs kept) = suc (cases_size cs)
 
   pub cases_size : CasesSyntax → ℕ
   cases_size no_case = 0

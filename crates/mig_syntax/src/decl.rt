@@ -35,8 +35,8 @@ pub enum FixText {
 #[derive(Debug, Drop)]
 pub enum Decl {
     Form(Form),
-    /// The name of the field that holds a save's version, and the number after `missing`.
-    Version(Name, Option<i128>),
+    /// The names of the fields that lead to a save's version, and the number after `missing`.
+    Version(Vec<Name>, Option<i128>),
     /// The version of a schema, and whether `follows` stands.
     Schema(i128, bool),
     /// A named type.

@@ -68,18 +68,24 @@ impl Drop for FieldText {
     }
 }
 
-/// The syntax of a choice, `'choice' STRING { case {, case} }`. Contracts see the pair of the tag's name and the cases.
+/// The syntax of a choice, `'choice' STRING { case {, case} [, 'else' 'kept'] }`. Contracts see the tag's name, the cases, and whether `else kept`
+/// stands.
 #[cycle(template)]
 #[derive(Debug)]
 pub struct ChoiceText {
     tag: Name,
     cases: Vec<CaseText>,
+    kept: bool,
 }
 
 impl Drop for ChoiceText {
     #[cycle(template_drops)]
     fn drop(self) {
-        let ChoiceText { tag, cases } = self;
+        let ChoiceText {
+            tag,
+            cases,
+            kept: _,
+        } = self;
         drop(tag);
         drop(cases);
     }
@@ -148,7 +154,7 @@ impl Model for ChoiceText {
 
     ghost use Rattle.mig_syntax.specs.TemplateView.{case_of};
 
-    ghost view = { λ a. (a.tag, map case_of a.cases.items) };
+    ghost view = { λ a. (a.tag, (map case_of a.cases.items, a.kept)) };
 
     ghost size = { cases_of_tag_size };
 
@@ -205,11 +211,11 @@ impl TemplateBox {
 impl ChoiceText {
     ghost use Rattle.mig_syntax.specs.TemplateView.{case_of};
 
-    /// The choice with the tag of this name, and the cases in this order.
-    pub fn new(tag: Name, cases: Vec<CaseText>) -> ChoiceText
-        ensures { result ≡ (tag, map case_of cases.items) }
+    /// The choice with the tag of this name, the cases in this order, and `else kept` or not.
+    pub fn new(tag: Name, cases: Vec<CaseText>, kept: bool) -> ChoiceText
+        ensures { result ≡ (tag, (map case_of cases.items, kept)) }
     {
-        ChoiceText { tag, cases }
+        ChoiceText { tag, cases, kept }
     }
 
     /// The name of the tag.
@@ -221,9 +227,16 @@ impl ChoiceText {
 
     /// The cases in order. Their literals may repeat.
     pub fn cases(&self) -> &[CaseText]
-        ensures { map case_of result.now ≡ self.now.1 }
+        ensures { map case_of result.now ≡ self.now.1.0 }
     {
         self.cases.as_slice()
+    }
+
+    /// Whether `else kept` stands.
+    pub fn kept(&self) -> bool
+        ensures { result ≡ self.now.1.1 }
+    {
+        self.kept
     }
 }
 

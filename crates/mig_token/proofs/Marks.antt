@@ -24,7 +24,7 @@ none_spelled b (m ∷ ms) other = by (bytes_eq b (spelling m)) refl (none_spelle
     by true e behind = absurd (other zero (omega arith) (same_text b (spelling m) (sym e)))
     by false e behind = behind
 
-pub no_mark : (b : List ℕ) → ((k : ℕ) → k < 80 → b ≢ spelling (get_or MARKS k M.Form)) → (m : Mark) → b ≢ spelling m
+pub no_mark : (b : List ℕ) → ((k : ℕ) → k < 82 → b ≢ spelling (get_or MARKS k M.Form)) → (m : Mark) → b ≢ spelling m
 no_mark b other m e =
     let both : Some m ≡ None = sym (found m) ∙ ap (λ (l : List ℕ). spelled_in l MARKS) (sym e) ∙ none_spelled b MARKS other in
     cc

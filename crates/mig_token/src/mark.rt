@@ -49,6 +49,8 @@ pub enum Mark {
     Any,
     List,
     Choice,
+    Else,
+    Kept,
     Byte,
     Short,
     Int,
@@ -89,7 +91,7 @@ pub enum Mark {
 }
 
 /// Every mark, once.
-const MARKS: [Mark; 80] = [
+const MARKS: [Mark; 82] = [
     Mark::Form,
     Mark::Nbt,
     Mark::Json,
@@ -133,6 +135,8 @@ const MARKS: [Mark; 80] = [
     Mark::Any,
     Mark::List,
     Mark::Choice,
+    Mark::Else,
+    Mark::Kept,
     Mark::Byte,
     Mark::Short,
     Mark::Int,
@@ -221,6 +225,8 @@ impl Mark {
             Mark::Any => b"any",
             Mark::List => b"list",
             Mark::Choice => b"choice",
+            Mark::Else => b"else",
+            Mark::Kept => b"kept",
             Mark::Byte => b"byte",
             Mark::Short => b"short",
             Mark::Int => b"int",

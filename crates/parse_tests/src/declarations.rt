@@ -10,8 +10,14 @@ fn each_declaration(rt: HostRuntime) -> Result<(), Fail> {
         &[
             ("form nbt", "Form(Nbt)"),
             ("form json", "Form(Json)"),
-            ("version \"DataVersion\"", "Version('DataVersion', None)"),
-            ("version \"v\" missing 100", "Version('v', Some(100))"),
+            ("version \"DataVersion\"", "Version(['DataVersion'], None)"),
+            ("version \"v\" missing 100", "Version(['v'], Some(100))"),
+            ("version \"a\" \"b\"", "Version(['a', 'b'], None)"),
+            ("version\"a\"\"b\"\"c\"", "Version(['a', 'b', 'c'], None)"),
+            (
+                "version \"a\" \"b\" \"a\" missing 0",
+                "Version(['a', 'b', 'a'], Some(0))",
+            ),
             ("schema 100", "Schema(100, false)"),
             ("schema 101 follows", "Schema(101, true)"),
             ("type a = int", "Named('a', Leaf(Int))"),
@@ -62,7 +68,7 @@ fn types_of_chains(rt: HostRuntime) -> Result<(), Fail> {
             ),
             (
                 "\ntype block = { \"pos\": whole, choice \"id\" { \"chest\" { \"items\": list text },\n \"sign\" { \"line\": text } }, .. }",
-                "Named('block', Rec(RecordText { fields: FieldList { list: [FieldText { name: 'pos', may: false, template: Leaf(Whole) }] }, choice: Some(ChoiceText { tag: 'id', cases: [CaseText { literal: 'chest', fields: FieldList { list: [FieldText { name: 'items', may: false, template: List(TemplateBox { template: Leaf(Text) }) }] } }, CaseText { literal: 'sign', fields: FieldList { list: [FieldText { name: 'line', may: false, template: Leaf(Text) }] } }] }), dots: true }))",
+                "Named('block', Rec(RecordText { fields: FieldList { list: [FieldText { name: 'pos', may: false, template: Leaf(Whole) }] }, choice: Some(ChoiceText { tag: 'id', cases: [CaseText { literal: 'chest', fields: FieldList { list: [FieldText { name: 'items', may: false, template: List(TemplateBox { template: Leaf(Text) }) }] } }, CaseText { literal: 'sign', fields: FieldList { list: [FieldText { name: 'line', may: false, template: Leaf(Text) }] } }], kept: false }), dots: true }))",
             ),
         ],
     )

@@ -16,7 +16,12 @@ fn wrong_declarations(rt: HostRuntime) -> Result<(), Fail> {
             "form text",
             "form nbt nbt",
             "form nbt json",
+            "version",
             "version v",
+            "version missing 1",
+            "version \"a\" \"b\" \"c\" \"d\"",
+            "version \"a\", \"b\"",
+            "version \"a\" missing 1 \"b\"",
             "version \"v\" missing",
             "version \"v\" 100",
             "schema",
@@ -28,6 +33,8 @@ fn wrong_declarations(rt: HostRuntime) -> Result<(), Fail> {
             "type a =",
             "root \"a\"",
             "root nop",
+            "root else",
+            "root kept",
             "root a b",
             "fix 1",
             "fix nop",
@@ -151,6 +158,8 @@ fn wrong_templates(rt: HostRuntime) -> Result<(), Fail> {
             "()",
             "(int",
             "map int",
+            "else",
+            "kept",
             "{ \"b\" int }",
             "{ b: int }",
             "{ \"b\": int \"c\": int }",
@@ -185,6 +194,30 @@ fn wrong_choices(rt: HostRuntime) -> Result<(), Fail> {
             "choice \"t\" { \"k\" {} }, choice \"u\" { \"k\" {} } }",
             "\"b\": int choice \"t\" { \"k\" {} } }",
             ".., choice \"t\" { \"k\" {} } }",
+        ],
+    )
+}
+
+#[test]
+fn wrong_kept_choices(rt: HostRuntime) -> Result<(), Fail> {
+    check_refused(
+        &rt,
+        rt.alloc(),
+        "type a = { choice \"t\" { ",
+        &[
+            "else kept } }",
+            "else kept, \"k\" {} } }",
+            "\"k\" {} else kept } }",
+            "\"k\" {}, else kept, \"l\" {} } }",
+            "\"k\" {}, else kept, else kept } }",
+            "\"k\" {}, else kept, } }",
+            "\"k\" {}, else kept else kept } }",
+            "\"k\" {}, else } }",
+            "\"k\" {}, kept } }",
+            "\"k\" {}, else, kept } }",
+            "\"k\" {}, kept else } }",
+            "\"k\" {} }, else kept }",
+            "\"k\" { else kept } } }",
         ],
     )
 }

@@ -101,15 +101,23 @@ fn each_choice(rt: HostRuntime) -> Result<(), Fail> {
         &[
             (
                 "{ choice \"t\" { \"k\" {} } }",
-                "] }, choice: Some(ChoiceText { tag: 't', cases: [CaseText { literal: 'k', fields: FieldList { list: [] } }] }), dots: false",
+                "] }, choice: Some(ChoiceText { tag: 't', cases: [CaseText { literal: 'k', fields: FieldList { list: [] } }], kept: false }), dots: false",
             ),
             (
                 "{ choice \"t\" { \"k\" {} }, .. }",
-                "] }, choice: Some(ChoiceText { tag: 't', cases: [CaseText { literal: 'k', fields: FieldList { list: [] } }] }), dots: true",
+                "] }, choice: Some(ChoiceText { tag: 't', cases: [CaseText { literal: 'k', fields: FieldList { list: [] } }], kept: false }), dots: true",
             ),
             (
                 "{ \"b\": int, choice \"t\" { \"k\" { \"c\": any }, \"l\" {} } }",
-                "FieldText { name: 'b', may: false, template: Leaf(Int) }] }, choice: Some(ChoiceText { tag: 't', cases: [CaseText { literal: 'k', fields: FieldList { list: [FieldText { name: 'c', may: false, template: Any }] } }, CaseText { literal: 'l', fields: FieldList { list: [] } }] }), dots: false",
+                "FieldText { name: 'b', may: false, template: Leaf(Int) }] }, choice: Some(ChoiceText { tag: 't', cases: [CaseText { literal: 'k', fields: FieldList { list: [FieldText { name: 'c', may: false, template: Any }] } }, CaseText { literal: 'l', fields: FieldList { list: [] } }], kept: false }), dots: false",
+            ),
+            (
+                "{ choice \"t\" { \"k\" {}, else kept } }",
+                "] }, choice: Some(ChoiceText { tag: 't', cases: [CaseText { literal: 'k', fields: FieldList { list: [] } }], kept: true }), dots: false",
+            ),
+            (
+                "{ choice \"t\" { \"k\" {}, \"l\" {}, else kept }, .. }",
+                "] }, choice: Some(ChoiceText { tag: 't', cases: [CaseText { literal: 'k', fields: FieldList { list: [] } }, CaseText { literal: 'l', fields: FieldList { list: [] } }], kept: true }), dots: true",
             ),
         ],
     )

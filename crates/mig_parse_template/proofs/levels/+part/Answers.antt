@@ -5,8 +5,9 @@ use Rattle.mig_token.specs.declared.mark.Mark.TheVariants as M
 use Rattle.mig_token.specs.Token.{Tok, toks}
 use Rattle.mig_syntax.specs.TemplateView.{field_of, case_of}
 use Rattle.mig_reader.specs.Reading.{Fails, begins, listed_at}
-use Rattle.mig_parse_template.specs.Reading.{field_at, case_at, last_choice_at, template_at, members_at}
+use Rattle.mig_parse_template.specs.Reading.{field_at, goes_on, cases_at, last_choice_at, template_at, members_at}
 use Rattle.mig_parse_template.proofs.Members.{at_dots, no_choice_read, at_choice, no_field, at_last, go_on, no_more}
+use Rattle.mig_parse_template.proofs.Cases.{no_case, last_case, further_case, no_turn_left}
 use Rattle.mig_reader.proofs.Lists.{no_item, last_item, further_item, no_turn}
 use Rattle.mig_parse_template.proofs.levels.+part.Goals as goal
 
@@ -107,30 +108,30 @@ fields_at-returns t c =
 
 pub cases_at-returns-in_err-case : goal.cases_at-returns-in_err-case
 cases_at-returns-in_err-case t c =
-    let R = case_at (template_at c.args.levels) in
+    let T = template_at c.args.levels in
     let n = length c.args.tokens.now in
     let p = err_from_is_err_and c.from_residual.result c.from_residual.ensures.1 in
-    rw (p.1, p.2) (no_item R c.in_err-case.field-0.0 (map case_of c.loop.cases.items) n c.loop.counter (toks c.loop.rest.now) (listed_at R n (toks c.args.tokens.now)) c.loop-test.true c.in_err-case.ensures c.loop.invariant)
+    rw (p.1, p.2) (no_case T c.in_err-case.field-0.0 (map case_of c.loop.cases.items) n c.loop.counter (toks c.loop.rest.now) (cases_at T n (toks c.args.tokens.now)) c.loop-test.true c.in_err-case.ensures c.loop.invariant)
 
-pub cases_at-returns-then-not-begins : goal.cases_at-returns-then-not-begins
-cases_at-returns-then-not-begins t c =
-    let R = case_at (template_at c.args.levels) in
+pub cases_at-returns-then-not-goes_on : goal.cases_at-returns-then-not-goes_on
+cases_at-returns-then-not-goes_on t c =
+    let T = template_at c.args.levels in
     let n = length c.args.tokens.now in
-    let ends : begins M.Comma (toks c.in_ok-case.after.now) ≡ false = search rules in
+    let ends : goes_on (toks c.in_ok-case.after.now) ≡ false = search rules in
     let pushed : map case_of c.push.new.self.items ≡ map case_of c.loop.cases.items ++ case_of c.in_ok-case.case ∷ [] = ap (map case_of) c.in_ok-push.ensures.items ∙ map-append case_of c.loop.cases.items (c.in_ok-case.case ∷ []) in
-    rw pushed (last_item R (map case_of c.loop.cases.items) n c.loop.counter (toks c.loop.rest.now) (case_of c.in_ok-case.case) (toks c.in_ok-case.after.now) (listed_at R n (toks c.args.tokens.now)) c.loop-test.true c.in_ok-case.ensures ends c.loop.invariant)
+    rw pushed (last_case T (map case_of c.loop.cases.items) n c.loop.counter (toks c.loop.rest.now) (case_of c.in_ok-case.case) (toks c.in_ok-case.after.now) (cases_at T n (toks c.args.tokens.now)) c.loop-test.true c.in_ok-case.ensures ends c.loop.invariant)
 
 pub cases_at-loop-preserved : goal.cases_at-loop-preserved
 cases_at-loop-preserved t c =
-    let R = case_at (template_at c.args.levels) in
+    let T = template_at c.args.levels in
     let n = length c.args.tokens.now in
-    let more : begins M.Comma (toks c.in_ok-case.after.now) ≡ true = search rules in
+    let more : goes_on (toks c.in_ok-case.after.now) ≡ true = search rules in
     let pushed : map case_of c.push.new.self.items ≡ map case_of c.loop.cases.items ++ case_of c.in_ok-case.case ∷ [] = ap (map case_of) c.in_ok-push.ensures.items ∙ map-append case_of c.loop.cases.items (c.in_ok-case.case ∷ []) in
     let e : toks c.behind_first-rest.result.now ≡ drop 1 (toks c.in_ok-case.after.now) = search rules in
-    rw (pushed, e) (further_item R (map case_of c.loop.cases.items) n c.loop.counter (toks c.loop.rest.now) (case_of c.in_ok-case.case) (toks c.in_ok-case.after.now) (listed_at R n (toks c.args.tokens.now)) c.loop-test.true c.in_ok-case.ensures more c.loop.invariant)
+    rw (pushed, e) (further_case T (map case_of c.loop.cases.items) n c.loop.counter (toks c.loop.rest.now) (case_of c.in_ok-case.case) (toks c.in_ok-case.after.now) (cases_at T n (toks c.args.tokens.now)) c.loop-test.true c.in_ok-case.ensures more c.loop.invariant)
 
 pub cases_at-returns : goal.cases_at-returns
 cases_at-returns t c =
-    let R = case_at (template_at c.args.levels) in
+    let T = template_at c.args.levels in
     let n = length c.args.tokens.now in
-    no_turn R (map case_of c.loop.cases.items) n c.loop.counter (toks c.loop.rest.now) (listed_at R n (toks c.args.tokens.now)) c.loop-test.false c.loop.invariant
+    no_turn_left T (map case_of c.loop.cases.items) n c.loop.counter (toks c.loop.rest.now) (cases_at T n (toks c.args.tokens.now)) c.loop-test.false c.loop.invariant

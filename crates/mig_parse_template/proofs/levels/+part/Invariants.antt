@@ -2,7 +2,7 @@ use Rattle.std.proofs.Common.{◌≡◌, ◌+◌, ◌*◌, ◌-◌, map, length}
 use Rattle.mig_token.specs.Token.{toks}
 use Rattle.mig_syntax.specs.TemplateView.{field_of, case_of}
 use Rattle.mig_reader.specs.Reading.{listed_at, after_items}
-use Rattle.mig_parse_template.specs.Reading.{field_at, case_at, members_at, template_at, after_fields}
+use Rattle.mig_parse_template.specs.Reading.{field_at, cases_at, members_at, template_at, after_fields}
 use Rattle.mig_parse_template.proofs.levels.+part.Given as goal
 
 abbrev pub decreases-part_at : goal.decreases-part_at
@@ -53,5 +53,5 @@ invariant-fields_at-loop l =
 
 abbrev pub invariant-cases_at-loop : goal.invariant-cases_at-loop
 invariant-cases_at-loop l =
-    after_items (map case_of l.cases.items) (listed_at (case_at (template_at l.levels)) (length l.tokens - l.counter) (toks l.rest))
-    ≡ listed_at (case_at (template_at l.levels)) (length l.tokens) (toks l.tokens)
+    after_items (map case_of l.cases.items) (cases_at (template_at l.levels) (length l.tokens - l.counter) (toks l.rest))
+    ≡ cases_at (template_at l.levels) (length l.tokens) (toks l.tokens)

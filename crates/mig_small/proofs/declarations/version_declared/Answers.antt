@@ -1,3 +1,4 @@
+use Rattle.std.proofs.Common.{[], ◌∷◌}
 use Rattle.std.proofs.lemmas.Result.{err_from_is_err_and}
 use Rattle.mig_syntax.specs.DeclSyntax as decl
 use Rattle.mig_syntax.specs.DeclView.{decl_of}
@@ -10,7 +11,7 @@ use Rattle.mig_small.proofs.declarations.version_declared.Goals as goal
 pub returns-in_err-declared : goal.returns-in_err-declared
 returns-in_err-declared c =
     let p = err_from_is_err_and c.from_residual.result c.from_residual.ensures.1 in
-    rw (p.1, p.2) (failed decl_of (IsDeclared c.args.piece.now) (λ v. v) (IsVersion c.args.piece.now) c.in_err-declared.field-0.0 (λ v h. (decl.version v.0 h.0, h.1)) c.in_err-declared.ensures)
+    rw (p.1, p.2) (failed decl_of (IsDeclared c.args.piece.now) (λ v. v) (IsVersion c.args.piece.now) c.in_err-declared.field-0.0 (λ v h. (decl.version (v.0 ∷ []) h.0, h.1)) c.in_err-declared.ensures)
 
 pub returns-in_err-missing_number-in-Some : goal.returns-in_err-missing_number-in-Some
 returns-in_err-missing_number-in-Some c =

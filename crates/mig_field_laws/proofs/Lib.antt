@@ -14,3 +14,4 @@ pub mod NewRecords
 pub mod Whole
 pub mod KeptRecords
 pub mod Laws
+pub mod Texts

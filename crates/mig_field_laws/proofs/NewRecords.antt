@@ -13,11 +13,11 @@ use Rattle.mig_model.proofs.Rising.{nothing_ascends}
 use Rattle.mig_model.proofs.SameNames.{same_name_is, same_name_itself}
 use Rattle.mig_model.specs.Record as template
 use Rattle.mig_model.specs.Record.{RecordParts, IsRecord, CasesAscend, choice_of, is_twice_named, is_twice_in, has_twice_in, has_no_case}
-use Rattle.mig_template.proofs.Names.{twice_in_both, first_once}
+use Rattle.mig_template.proofs.Names.{first_once}
 use Rattle.mig_template.proofs.Sorted.{once_if_ascends}
 use Rattle.mig_field.specs.FieldFn.{FieldOp, Scope, common, in_case, rename, drop, add, learn, forget, default, maybe, map_leaf, nest, unnest, wrap, unify, retag, add_case, FieldFn}
 use Rattle.mig_field.specs.NewRecord.{Scoped, FieldType, scoped, with_fields, filled, lessened, leaf_after, leaf_of_both, with_template, at_field, inner_fields, unnest_slot, new_fields, with_cases, can_be_settled, can_be_case, fields_of_case, retagged, with_case, new_by, new_record}
-use Rattle.mig_model.proofs.Edits.{under-put_all, ascends-put, ascends-without, ascends-put_all, among_is, none_among}
+use Rattle.mig_model.proofs.Edits.{under-put_all, ascends-put, ascends-without, ascends-put_all, among_is}
 use Rattle.mig_model.proofs.Options.{some-there}
 use Rattle.mig_action.proofs.Stands.{field_is}
 use Rattle.mig_action.proofs.Settings.{first-none}

@@ -25,7 +25,7 @@ use Rattle.mig_value.specs.Typed.{Tag}
 use Rattle.mig_field.specs.NewRecord.{FieldType, is_tag}
 use Rattle.mig_model.proofs.Edits.{first, found_in, under_past, ascends-tail, under-itself}
 use Rattle.mig_model.proofs.Options.{none-there}
-use Rattle.mig_action.proofs.Stands.{case_of, Musts, musts_all, all_musts, either}
+use Rattle.mig_action.proofs.Stands.{case_of, musts_all, all_musts, either}
 use Rattle.mig_action.proofs.Distinct.{Distinct}
 
 -- a tree, or none, at a field, or at none

@@ -1,9 +1,8 @@
 -- A map of a record and the same map treated, before and after a function.
 use Rattle.std.proofs.Common.{◌≡◌, ◌≤◌, ℕ, List, [], ◌∷◌, Bool, true, false, Option, Some, None, refl, sym, ap, subst, ◌∙◌, arith}
-use Rattle.std.specs.Prelude.{not, ◌||◌, ◌&&◌, is_some, option_map, option_and_then, unwrap_or, if◌then◌else◌}
+use Rattle.std.specs.Prelude.{not, ◌||◌, ◌&&◌, is_some, option_and_then, unwrap_or, if◌then◌else◌}
 use Rattle.std.specs.Map.{keys_of}
 use Rattle.mig_model.specs.declared.form.Form.{Form}
-use Rattle.mig_model.specs.declared.kind.Kind.{Kind}
 use Rattle.mig_model.specs.declared.kind.Kind.TheVariants as K
 use Rattle.mig_model.specs.declared.presence.Presence.TheVariants.{Must}
 use Rattle.mig_model.specs.declared.rest.Rest.{Rest}
@@ -13,7 +12,7 @@ use Rattle.mig_model.specs.Kinds.{kind_of}
 use Rattle.mig_model.specs.Names.{Ascends, has_twice, is_among, under, same_name, has, put, others, those}
 use Rattle.mig_model.specs.Const.{const_tree}
 use Rattle.mig_model.specs.Fields.{is_in_choice, if_so}
-use Rattle.mig_model.specs.Template.{leaf, any, Field, same_kind, is_leaf, is_must, is_open}
+use Rattle.mig_model.specs.Template.{leaf, any, Field, same_kind, is_must, is_open}
 use Rattle.mig_model.specs.Inhabits.{Entries, is_in_form}
 use Rattle.mig_model.specs.Family.{is_wrong_leaf}
 use Rattle.mig_model.proofs.Bools.{split_or, left_or, right_or}

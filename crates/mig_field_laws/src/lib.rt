@@ -1,6 +1,7 @@
 //! The laws of field functions over plain records and plain trees, each the contract of an empty function.
 #![tactic(auto)]
 
+ghost use Rattle.mig_field_laws.specs.Texts.{TextsStay};
 ghost use Rattle.mig_field_laws.specs.Laws.{CountsStay, FormStays, NamesStay, OrderStays, TestsStay, TreatingCommutes, TypesStay};
 
 /// The new record is in order at all depths.
@@ -36,4 +37,9 @@ pub fn names_stay()
 /// A map of the form is still of it, where all leaves of the new record are of kinds of the form.
 pub fn form_stays()
     ensures { FormStays }
+{}
+
+/// Where the texts of a map pass a test, and those of the function and of the cases' names, the texts of the new map pass it: what could be written before can be written after.
+pub fn texts_stay()
+    ensures { TextsStay }
 {}

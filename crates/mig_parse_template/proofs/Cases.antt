@@ -1,24 +1,21 @@
 -- Reading one case after another: what is in the grammar, and how a loop reads them.
 use Rattle.std.proofs.Common.{◌≡◌, ℕ, zero, suc, ◌-◌, ◌+◌, ◌≤◌, ◌<◌, List, [], ◌∷◌, ◌++◌, drop, Bool, true, false, Some, None, refl, sym, ◌∙◌, arith}
 use Rattle.std.specs.Prelude.{◌&&◌}
+use Rattle.mig_model.proofs.Bools.{first_true}
 use Rattle.mig_token.specs.declared.mark.Mark.TheVariants as M
 use Rattle.mig_token.specs.Token.{Tok, mark}
 use Rattle.mig_reader.specs.declared.error.ParseError.{ParseError}
 use Rattle.mig_reader.specs.declared.error.ParseError.TheVariants as errors
 use Rattle.mig_syntax.specs.TemplateSyntax.{TemplateSyntax, CaseSyntax}
-use Rattle.mig_reader.specs.Reading.{◌>>=◌, Fails, Read, Reader, begins, after_items}
+use Rattle.mig_reader.specs.Reading.{Fails, Read, Reader, begins, after_items}
 use Rattle.mig_parse_template.specs.Grammar.{comma_kept}
 use Rattle.mig_parse_template.specs.Reading.{case_at, goes_on, cases_at, comma_kept_at}
 use Rattle.mig_reader.proofs.Fronts.{here}
 use Rattle.mig_reader.proofs.Lists.{regroup}
 
-first_of : (a b : Bool) → (a && b) ≡ true → a ≡ true
-first_of true b h = refl
-first_of false b h = absurd cc
-
 pub is_comma : (ts : List Tok) → goes_on ts ≡ true → begins M.Comma ts ≡ true
 unfolding goes_on
-is_comma ts h = first_of (begins M.Comma ts) _ h
+is_comma ts h = first_true (begins M.Comma ts) _ h
 
 -- `, else kept` or nothing, before the `}`
 pub kept_after : (kept : Bool) (us : List Tok) → comma_kept_at (comma_kept kept ++ mark M.CurlyClose ∷ us) ≡ here kept (mark M.CurlyClose ∷ us)

@@ -114,14 +114,6 @@ module _ (form : Form) (path : Path) where
   wrong_later s t xs ys x i (C.At k w) r h = (i, (h.0, wrong_here s t xs ys x i w r h.1))
   wrong_later s t xs ys x i C.Memory r h = tt
 
-pub drop_next : {X : Type 0} (xs : List X) (i : ℕ) (x : X) → i < length xs → x ≡ get_or xs i x → drop i xs ≡ x ∷ drop (i + 1) xs
-drop_next [] i x l e = absurd (omega arith)
-drop_next (y ∷ xs) zero x l e = ap (λ z. z ∷ xs) (sym e)
-drop_next (y ∷ xs) (suc i) x l e = drop_next xs i x (omega arith) e ∙ ap (λ k. x ∷ drop k (y ∷ xs)) next
-  where
-    next : suc (i + 1) ≡ suc i + 1
-    next = omega arith
-
 -- ---- steps at which nothing is wrong
 module _ (form : Form) (path : Path) where
   passed_schema : (s : ℕ × Family) (v : ℕ) (f : Option Family) (later : List ChainStep) → IsPassed form path (Some s) (schema v f) later → (w : Walk) → IsWrong form path (Some s) (schema v f) later w → ⊥

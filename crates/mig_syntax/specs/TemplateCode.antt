@@ -1,6 +1,6 @@
 -- The syntax of a template as a stored value, so that a struct may have it as its value.
-use Rattle.std.specs.Prelude.{ℕ, List, ◌≡◌, refl}
-use Rattle.std.specs.Coded.{Coded, code_by, coded_ℕ, coded_list, coded_bool, coded×}
+use Rattle.std.specs.Prelude.{List, ◌≡◌, refl}
+use Rattle.std.specs.Coded.{Coded, coded_list, coded_bool, coded×}
 use Rattle.std.proofs.Common.{ap, ap₂, arith}
 use base.Stored.{Gv, gnil, gnum, gcons, num}
 use Rattle.mig_model.specs.Stored.{head, tail, coded_name, coded_kind}

@@ -295,4 +295,12 @@ impl RuleList {
     {
         self.list.as_slice()
     }
+
+    /// Gives the rules up.
+    pub fn into_vec(self) -> Vec<RuleText>
+        ensures { map rule_of result.items ≡ self }
+    {
+        let RuleList { list } = self;
+        list
+    }
 }

@@ -256,4 +256,12 @@ impl FieldList {
     {
         self.list.as_slice()
     }
+
+    /// Gives the fields up.
+    pub fn into_vec(self) -> Vec<FieldText>
+        ensures { map field_of result.items ≡ self }
+    {
+        let FieldList { list } = self;
+        list
+    }
 }

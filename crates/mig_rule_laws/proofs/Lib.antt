@@ -1,0 +1,11 @@
+pub mod Ascending
+pub mod RightRecords
+pub mod Children
+pub mod Rules
+pub mod Treated
+pub mod Families
+pub mod RuleFixes
+pub mod Paths
+pub mod Deep
+pub mod Fixes
+pub mod Laws

@@ -1,2 +1,7 @@
 pub mod FixLaws
 pub mod DeclarationLaws
+pub mod TextLaws
+pub mod TokenTexts
+pub mod TemplateTexts
+pub mod RuleTexts
+pub mod DeclarationTexts

@@ -1,3 +1,5 @@
 pub mod Grammar
 pub mod Reading
+pub mod Text
+pub mod Texts
 pub mod Law

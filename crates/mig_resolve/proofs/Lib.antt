@@ -1,0 +1,13 @@
+pub mod Clear
+pub mod Beginning
+pub mod Walks
+pub mod Everywhere
+pub mod Texts
+pub mod KindsOfSteps
+pub mod Resolved
+pub mod Names
+pub mod Lists
+pub mod Scans
+pub mod Formed
+pub mod Stepped
+pub mod Spelled

@@ -1,0 +1,5 @@
+pub mod InOrder
+pub mod Levels
+pub mod Refusals
+pub mod Smaller
+pub mod Twice

@@ -13,36 +13,36 @@ use Rattle.mig_nbt.specs.Format.{NbtSave}
 use Rattle.mig_nbt.specs.Reading.{save_at}
 use Rattle.mig_nbt.proofs.Laws.{save_sound, save_complete}
 use Rattle.mig_tree.specs.declared.tree.Tree.{Tree}
-use Rattle.mig_small.specs.Small.{Small, chain_of}
+use Rattle.mig_rule.specs.Chain.{Chain}
 use Rattle.mig_lift.specs.Lift.{Save, Cause, lift, lift_tree, decoded, encoded, decode, bytes}
 use Rattle.mig_lift.specs.declared.fault.LiftFault.{LiftFault}
 use Rattle.mig_lift.specs.declared.fault.LiftFault.TheVariants as fault
 use Rattle.mig_lift.specs.View.{Causes, Lifts, LiftsTree}
 
-module _ (s : Small) (aim : ℕ) (b : List ℕ) (e : s.form ≡ F.Nbt) where
-  by_read : (o : Option (List ℕ × Plain)) → save_at b ≡ o → lift (chain_of s) aim b ≡ decoded (chain_of s) aim o
+module _ (c : Chain) (aim : ℕ) (b : List ℕ) (e : c.form ≡ F.Nbt) where
+  by_read : (o : Option (List ℕ × Plain)) → save_at b ≡ o → lift c aim b ≡ decoded c aim o
   unfolding lift
-  by_read o h = ap (λ f. decoded (chain_of s) aim (decode f b)) e ∙ ap (decoded (chain_of s) aim) h
+  by_read o h = ap (λ f. decoded c aim (decode f b)) e ∙ ap (decoded c aim) h
 
-  pub nothing : ((name : List ℕ) (t : Plain) → NbtSave b name t → ⊥) → lift (chain_of s) aim b ≡ Err bytes
+  pub nothing : ((name : List ℕ) (t : Plain) → NbtSave b name t → ⊥) → lift c aim b ≡ Err bytes
   nothing no_save = by (save_at b) refl
     where
-      by : (o : Option (List ℕ × Plain)) → save_at b ≡ o → lift (chain_of s) aim b ≡ Err bytes
+      by : (o : Option (List ℕ × Plain)) → save_at b ≡ o → lift c aim b ≡ Err bytes
       by None h = by_read None h
       by (Some x) h = absurd (no_save x.0 x.1 (save_sound b x.0 x.1 h))
 
-  pub something : (name : List ℕ) (t : Plain) → NbtSave b name t → lift (chain_of s) aim b ≡ encoded s.form name (lift_tree (chain_of s) aim t)
+  pub something : (name : List ℕ) (t : Plain) → NbtSave b name t → lift c aim b ≡ encoded c.form name (lift_tree c aim t)
   something name t save = by_read (Some (name, t)) (save_complete b name t save)
 
-module _ (s : Small) (aim : ℕ) (b : List ℕ) (e : s.form ≡ F.Json) where
-  by_parse : (o : Option Plain) → decode_json b ≡ o → lift (chain_of s) aim b ≡ decoded (chain_of s) aim (option_map (λ t. ([], t)) o)
+module _ (c : Chain) (aim : ℕ) (b : List ℕ) (e : c.form ≡ F.Json) where
+  by_parse : (o : Option Plain) → decode_json b ≡ o → lift c aim b ≡ decoded c aim (option_map (λ t. ([], t)) o)
   unfolding lift
-  by_parse o h = ap (λ f. decoded (chain_of s) aim (decode f b)) e ∙ ap (λ p. decoded (chain_of s) aim (option_map (λ t. ([], t)) p)) h
+  by_parse o h = ap (λ f. decoded c aim (decode f b)) e ∙ ap (λ p. decoded c aim (option_map (λ t. ([], t)) p)) h
 
-  pub no_json : ((t : Plain) → JsonSave b t → ⊥) → lift (chain_of s) aim b ≡ Err bytes
+  pub no_json : ((t : Plain) → JsonSave b t → ⊥) → lift c aim b ≡ Err bytes
   no_json no_save = by_parse None (not_decoded b no_save)
 
-  pub some_json : (t : Plain) → JsonSave b t → lift (chain_of s) aim b ≡ encoded s.form [] (lift_tree (chain_of s) aim t)
+  pub some_json : (t : Plain) → JsonSave b t → lift c aim b ≡ encoded c.form [] (lift_tree c aim t)
   some_json t save = by_parse (Some t) (json_decoded b t save)
 
 -- a cause of the tree is one of the save

@@ -8,7 +8,7 @@ use Rattle.std.proofs.lemmas.Str.{encodes-chars}
 use Rattle.std.proofs.lemmas.Bool.{lt-ltb, ltb-true}
 use Rattle.mig_nbt.specs.Format.{Groups, none, one, two, three}
 use Rattle.mig_nbt.specs.Writing.{IsName}
-use Rattle.mig_small.specs.Small.{IsSpelled}
+use Rattle.mig_rule.specs.Spelled.{IsSpelledText}
 
 one_char : (c : ℕ) (rest : List ℕ) → c < 65536 → Groups rest → Groups (encode c ++ rest)
 unfolding encode
@@ -28,5 +28,5 @@ all_chars : (cs : List ℕ) → AllByRecursion (λ c. (32 ≤ c) × (c < 2 ^ 16)
 all_chars [] a = none
 all_chars (c ∷ cs) a = one_char c (encodes cs) a.0.1 (all_chars cs a.1)
 
-pub name_is : (s : List ℕ) → IsSpelled s → IsName s
-name_is s p = (subst Groups (encodes-chars s p.utf8) (all_chars (chars s) p.characters), omega (arith, p.short))
+pub name_is : (s : List ℕ) → IsSpelledText s → IsName s
+name_is s p = (subst Groups (encodes-chars s p.1) (all_chars (chars s) p.2), omega (arith, p.0))

@@ -1,5 +1,6 @@
 -- What becomes of one save.
-use Rattle.std.specs.Prelude.{ℕ, pos, List, [], Option, Some, None, option_map, Result, Ok, Err, nat_lt, nat_le, if◌then◌else◌}
+use Rattle.std.specs.Prelude.{ℕ, pos, List, [], ◌∷◌, Option, Some, None, option_map, Result, Ok, Err, nat_lt, nat_le, if◌then◌else◌}
+use Rattle.std.specs.Option.{option_or}
 use Rattle.mig_model.specs.declared.form.Form.{Form}
 use Rattle.mig_model.specs.declared.form.Form.TheVariants as F
 use Rattle.mig_model.specs.Plain as plain
@@ -7,7 +8,9 @@ use Rattle.mig_model.specs.Plain.{Plain}
 use Rattle.mig_model.specs.Version.{last_version, version_in, strip, put_version}
 use Rattle.mig_model.specs.Family.{Family}
 use Rattle.mig_model.specs.Place.{Place, place}
-use Rattle.mig_small.specs.Chain.{Chain, floor_family, fixed}
+use Rattle.mig_model.specs.Fields.{if_so}
+use Rattle.mig_rule.specs.Chain.{Chain, versions, families}
+use Rattle.mig_rule.specs.Lifted.{fixed_by, numbered}
 use Rattle.mig_json.specs.Decode.{decode_json}
 use Rattle.mig_json.specs.Writing.{json_text}
 use Rattle.mig_nbt.specs.Reading.{save_at}
@@ -58,9 +61,17 @@ version_at c (Some t) = number_in c.form t
 abbrev pub version_of : Chain → Plain → Result ℕ VersionKind
 version_of c t = version_at c (version_in c.version t)
 
+-- the family of the last of the versions that isn't above v, or none where each is above it
+abbrev pub floor_in : ℕ → List ℕ → List Family → Option Family
+floor_in v (u ∷ us) (f ∷ fs) = option_or (floor_in v us fs) (if_so (nat_le u v) f)
+floor_in v us fs = None
+
+abbrev pub floor_family : Chain → ℕ → Option Family
+floor_family c v = floor_in v (versions c.steps) (families c.steps)
+
 -- the tree without its version, after the fixes, with the target put at the version path; and the save's version
 abbrev pub lifted_from : Chain → ℕ → Plain → ℕ → Plain × ℕ
-lifted_from c target t v = (put_version c.version (version_tree c.form target) (fixed c v target (strip c.version t)), v)
+lifted_from c target t v = (put_version c.version (version_tree c.form target) (fixed_by v target (numbered c.steps) (strip c.version t)), v)
 
 -- the first wrong place refuses
 abbrev pub lift_where_it_fits : Chain → ℕ → Plain → ℕ → Option Place → Result (Plain × ℕ) Cause

@@ -6,9 +6,9 @@ mod fix;
 mod lifting;
 mod migrator;
 mod schema;
+mod small;
 mod version;
 
 pub use fault::{LiftFault, NewFault, VersionKind};
 pub use mig_model::LAST_VERSION;
-pub use mig_small::{SmallChain, SmallFault, read_small};
 pub use migrator::Migrator;

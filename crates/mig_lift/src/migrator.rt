@@ -1,15 +1,15 @@
 //! A chain and the target of its lifts.
-ghost use Rattle.std.specs.Prelude.{◌≡◌, ◌≤◌, ◌<◌, IfOk, MatchResult};
+ghost use Rattle.std.specs.Prelude.{◌≡◌, ◌≤◌, IfErr, IfOk};
 ghost use Rattle.mig_model.specs.Version.{last_version};
-ghost use Rattle.mig_small.specs.Small.{chain_of};
-ghost use Rattle.mig_lift.specs.declared.fault.NewFault.TheVariants.{TargetBelow};
 ghost use Rattle.mig_lift.specs.Lift.{lift};
-ghost use Rattle.mig_lift.specs.View.{Lifts};
+ghost use Rattle.mig_lift.specs.Setting.{IsInReach};
+ghost use Rattle.mig_lift.specs.View.{IsNoSetting, Lifts};
 
 use crate::lifting::{lift_json, lift_nbt};
+use crate::small::is_small;
 use crate::{LiftFault, NewFault};
 use mig_model::Form;
-use mig_small::SmallChain;
+use mig_rule::Chain;
 use mig_tree::Steps;
 use std::alloc::Global;
 use std::marker::Model;
@@ -18,14 +18,17 @@ use std::sync::ledger::Ledger;
 /// Lifts saves by a chain to a target.
 #[derive(Debug, Drop)]
 pub struct Migrator {
-    chain: SmallChain,
+    chain: Chain,
     target: u32,
 }
 
 impl Model for Migrator {
     ghost use Rattle.mig_lift.specs.Setting.{Setting, IsInReach};
+    ghost use Rattle.mig_lift.specs.Code.{coded_setting};
 
     ghost Value = { Setting };
+
+    ghost coded = { coded_setting };
 
     ghost view = { λ a. record { chain = a.chain; target = a.target } };
 
@@ -33,16 +36,18 @@ impl Model for Migrator {
 }
 
 impl Migrator {
-    /// A migrator to the target, which is a version of this project's range. `TargetBelow` gives the first schema's version.
-    pub fn new(chain: SmallChain, target: u32) -> Result<Migrator, NewFault>
+    /// A migrator to the target, which is a version of this project's range. The refusals are looked for in the order of `NewFault`.
+    pub fn new(alloc: Global, chain: Chain, target: u32) -> Result<Migrator, NewFault>
         requires { target ≤ last_version }
-        ensures { MatchResult result
-            (λ m. (m ≡ record { chain = chain; target = target }) × (chain.first ≤ target))
-            (λ e. (e ≡ TargetBelow chain.first) × (target < chain.first)) }
+        ensures made { IfOk result (λ m. m ≡ record { chain = chain; target = target }) }
+        ensures reach { IfOk result IsInReach }
+        ensures fault { IfErr result (λ e. IsNoSetting e chain target) }
     {
+        if !is_small(alloc, &chain)? {
+            return Err(NewFault::NotYet);
+        }
         let first = chain.first();
         if target < first {
-            drop(chain);
             return Err(NewFault::TargetBelow(first));
         }
         Ok(Migrator { chain, target })
@@ -69,7 +74,7 @@ impl Migrator {
         bytes: &[u8],
         steps: &mut Steps<L>,
     ) -> Result<(Vec<u8>, u32), LiftFault>
-        ensures lifts { Lifts result (lift (chain_of self.now.chain) self.now.target bytes.now) }
+        ensures lifts { Lifts result (lift self.now.chain self.now.target bytes.now) }
         ensures count { steps.new ≡ steps.old }
     {
         match self.form() {

@@ -1,5 +1,4 @@
 pub mod Maps
-pub mod Due
 pub mod Steps
 pub mod Loop
 pub mod Listing
@@ -7,3 +6,4 @@ pub mod Causes
 pub mod Commands
 pub mod Numbers
 pub mod Asking
+pub mod Readings

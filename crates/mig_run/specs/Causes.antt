@@ -1,12 +1,15 @@
 -- What the lines that a run puts tell, on any files and any report, also on those that tell nothing of what they hold.
-use Rattle.std.specs.Prelude.{◌≡◌, ◌⊎◌, ℕ, ◌+◌, ◌≤◌, Bool, true, List, [], ◌∷◌, ◌++◌, Option, Some, None, Result, Ok, Err, IsErrOf}
+use Rattle.std.specs.Prelude.{◌≡◌, ◌≢◌, ◌⊎◌, ℕ, ◌+◌, ◌≤◌, Bool, true, List, [], ◌∷◌, ◌++◌, Option, Some, None, Result, Ok, Err, IsErrOf}
 use Rattle.std.specs.List.{list_any}
 use Rattle.mig_files.specs.Held.{Rose, RoseBy, Counts, NoneFell}
 use Rattle.mig_lift.specs.Lift.{Save, Cause}
 use Rattle.mig_run.specs.declared.stop.Stop.{Stop}
 use Rattle.mig_run.specs.declared.stop.Stop.TheVariants as stop
 use Rattle.mig_run.specs.declared.stop.Ending.{Ending}
-use Rattle.mig_run.specs.Command.{MayRefuse, Says, ended}
+use Rattle.mig_run.specs.declared.stop.Ending.TheVariants as ending
+use Rattle.mig_rule.specs.Chain.{Chain}
+use Rattle.mig_run.specs.Chains.{IsTheChain, MayTell, MayRefuse, count_line}
+use Rattle.mig_run.specs.Command.{Asked, lift, check, Puts, Says, ended}
 use Rattle.mig_run.specs.Folder.{Grows, GrowsInto, is_refused}
 use Rattle.mig_run.specs.Lines.{Listed, listed_line, listed_lines}
 
@@ -48,8 +51,17 @@ pub record PutsSaves (target : ℕ) (before now : Counts) (old new : Option (Lis
   pub absent : RoseBy (absent_in saves) before.absent now.absent
   pub lines : PutsLines target saves old new result
 
--- a line of status 2 is put, which has its cause, or the lines of listed saves are
-abbrev pub PutsCommand : ℕ → Counts → Counts → Option (List ℕ) → Option (List ℕ) → Result Ending Stop → Type 0
-PutsCommand target before now old new result =
-    ((line : List ℕ) × MayRefuse target before now line × Says line old new result)
-    ⊎ ((w : Result Bool Stop) × (result ≡ ended w) × PutsSaves target before now old new w)
+-- nothing is put, and no call of the report failed
+abbrev pub Stops : Option (List ℕ) → Option (List ℕ) → Result Ending Stop → Type 0
+Stops old new (Ok e) = ⊥
+Stops old new (Err e) = (e ≢ stop.Report) × (new ≡ old)
+
+-- a line of status 2 is put, which has its cause; or else what the command does: the lines of listed saves are put, or the line of an accepted chain
+abbrev pub PutsCommand : Asked → Counts → Counts → Option (List ℕ) → Option (List ℕ) → Result Ending Stop → Type 0
+PutsCommand (lift a) before now old new result =
+    ((line : List ℕ) × MayRefuse a.target before now line × Says line old new result)
+    ⊎ ((w : Result Bool Stop) × (result ≡ ended w) × PutsSaves a.target before now old new w)
+PutsCommand (check chain) before now old new result =
+    ((line : List ℕ) × MayTell before now line × Says line old new result)
+    ⊎ ((text : List ℕ) × (c : Chain) × IsTheChain text c × Puts ending.Done (count_line c) old new result)
+    ⊎ Stops old new result

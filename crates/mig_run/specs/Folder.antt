@@ -7,7 +7,7 @@ use Rattle.mig_files.specs.Held.{Key, Held, assign, is_among}
 use Rattle.mig_model.specs.declared.limits.TheConstants.{MOST_SAVE_BYTES}
 use Rattle.mig_model.specs.declared.form.Form.{Form}
 use Rattle.mig_model.specs.declared.form.Form.TheVariants as F
-use Rattle.mig_small.specs.Chain.{Chain}
+use Rattle.mig_rule.specs.Chain.{Chain}
 use Rattle.mig_lift.specs.Lift.{Save, Cause, lift}
 use Rattle.mig_lift.specs.Lift as lifting
 use Rattle.mig_run.specs.declared.stop.Stop.{Stop}

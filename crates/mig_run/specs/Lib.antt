@@ -1,4 +1,5 @@
 pub mod Lines
+pub mod Chains
 pub mod Folder
 pub mod Command
 pub mod Causes

@@ -52,6 +52,18 @@ usage_line = codes "usage" ++ 10 ∷ []
 abbrev pub absent_line : List ℕ
 absent_line = codes "chain: absent" ++ 10 ∷ []
 
+abbrev pub too_long_line : List ℕ
+too_long_line = codes "chain: too long" ++ 10 ∷ []
+
+abbrev pub declaration_line : ℕ → List ℕ
+declaration_line k = codes "chain: declaration " ++ decimal k ++ 10 ∷ []
+
+abbrev pub fault_line : ℕ → ℕ → List ℕ
+fault_line n k = codes "chain: fault " ++ decimal n ++ codes " at " ++ decimal k ++ 10 ∷ []
+
+abbrev pub accepted_line : ℕ → ℕ → List ℕ
+accepted_line schemas fixes = codes "accepted " ++ decimal schemas ++ codes " schemas " ++ decimal fixes ++ codes " fixes" ++ 10 ∷ []
+
 abbrev pub not_yet_line : List ℕ
 not_yet_line = codes "chain: not yet" ++ 10 ∷ []
 

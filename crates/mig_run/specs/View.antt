@@ -1,28 +1,45 @@
 -- What the answers of the parts stand for.
-use Rattle.std.specs.Prelude.{◌≡◌, ◌⊎◌, ℕ, List, [], Option, Some, None, Result, Ok, Err}
+use Rattle.std.specs.Prelude.{◌≡◌, ◌≤◌, ℕ, List, [], Option, Some, None, Result, Ok, Err}
 use Rattle.mig_files.specs.Held.{Key, Held, Counts}
-use Rattle.mig_small.specs.Chain.{Chain}
-use Rattle.mig_small.specs.Small.{chain_of}
 use Rattle.mig_lift.specs.Lift.{Save, Cause}
 use Rattle.mig_lift.specs.Lift as lifting
 use Rattle.mig_lift.specs.Setting.{Setting}
-use Rattle.mig_run.specs.declared.chain.Due.{Due}
-use Rattle.mig_run.specs.declared.chain.Due.TheVariants as due
+use Rattle.mig_model.specs.Version.{last_version}
+use Rattle.mig_rule.specs.Chain.{Chain}
+use Rattle.mig_run.specs.declared.chain.Reading.{Reading}
+use Rattle.mig_run.specs.declared.chain.Reading.TheVariants as reading
+use Rattle.mig_run.specs.declared.lift_command.Due.{Due}
+use Rattle.mig_run.specs.declared.lift_command.Due.TheVariants as due
 use Rattle.mig_run.specs.declared.save.Verdict.{Verdict}
 use Rattle.mig_run.specs.declared.save.Verdict.TheVariants as verdict
+use Rattle.mig_run.specs.declared.words.LiftRequest.{LiftRequest}
 use Rattle.mig_run.specs.declared.words.Request.{Request}
+use Rattle.mig_run.specs.declared.words.Request.TheVariants as request
 use Rattle.mig_run.specs.declared.stop.Stop.{Stop}
 use Rattle.mig_run.specs.declared.stop.Stop.TheVariants as stop
-use Rattle.mig_run.specs.Lines.{absent_line, not_yet_line}
+use Rattle.mig_parse.specs.declared.fault.ParseFault.{ParseFault}
+use Rattle.mig_parse.specs.declared.fault.ParseFault.TheVariants as parse
+use Rattle.mig_run.specs.Lines.{absent_line, too_long_line, declaration_line}
+use Rattle.mig_run.specs.Chains.{TextFault, IsTextFault, text_fault_line, IsTheChain, MayTell, refusal_of}
 use Rattle.mig_run.specs.Folder.{Job, job_of, outcome, stored, Free, Grows, GrowsInto}
-use Rattle.mig_run.specs.Command.{Asked, IsNoChain, IsTheChain, first_of, below, MayRefuse}
+use Rattle.mig_run.specs.Command as command
+use Rattle.mig_run.specs.Command.{Lifting, Asked}
+
+abbrev pub lifting_by : LiftRequest → Lifting
+lifting_by r = record { chain = r.chain.now; source = r.folders.from.now; aim = r.folders.to.now; target = r.target }
 
 abbrev pub asked_by : Request → Asked
-asked_by r = record { chain = r.chain.now; source = r.folders.from.now; aim = r.folders.to.now; target = r.target }
+asked_by (request.Lift r) = command.lift (lifting_by r)
+asked_by (request.Check chain) = command.check chain.now
+
+-- a target is a version
+abbrev pub IsBounded : Request → Type 0
+IsBounded (request.Lift r) = r.target ≤ last_version
+IsBounded (request.Check chain) = Unit {0}
 
 -- a migrator's job
 abbrev pub job_at : Setting → List ℕ → List ℕ → Held → Job
-job_at m source aim held = job_of (chain_of m.chain) m.target source aim held
+job_at m source aim held = job_of m.chain m.target source aim held
 
 -- what was found, and none where the save wasn't there
 abbrev pub found : Verdict → Option (Result Save Cause)
@@ -55,15 +72,25 @@ Told line old new (Err stop.Report) = GrowsInto old new [] line
 Told line old new (Err stop.Memory) = Grows old new []
 Told line old new (Err stop.Files) = ⊥
 
--- what is due by what is held under the chain's key
-abbrev pub IsDue : Option (List ℕ) → ℕ → Due → Type 0
-IsDue None target (due.Line l) = l.items ≡ absent_line
-IsDue None target (due.Lift m) = ⊥
-IsDue (Some text) target (due.Line l) =
-    (IsNoChain text × (l.items ≡ not_yet_line)) ⊎ ((c : Chain) × IsTheChain text c × (below (first_of c) target ≡ Some l.items))
-IsDue (Some text) target (due.Lift m) = IsTheChain text (chain_of m.chain) × (below (first_of (chain_of m.chain)) target ≡ None) × (m.target ≡ target)
+-- the line of a text that gives no declarations
+abbrev pub IsGrammarLine : ParseFault → List ℕ → Type 0
+IsGrammarLine parse.TooLong l = l ≡ too_long_line
+IsGrammarLine (parse.Declaration k) l = l ≡ declaration_line k
+IsGrammarLine parse.Memory l = ⊥
 
--- a line that is due has its cause, and a lifting has the target
-abbrev pub MayBeDue : ℕ → Counts → Counts → Due → Type 0
-MayBeDue target before now (due.Line l) = MayRefuse target before now l.items
-MayBeDue target before now (due.Lift m) = m.target ≡ target
+-- what is read is what is held under the chain's key: nothing, a text that is no chain, or one that is
+abbrev pub IsRead : Option (List ℕ) → Reading → Type 0
+IsRead None (reading.Line l) = l.items ≡ absent_line
+IsRead None (reading.Chain c) = ⊥
+IsRead (Some text) (reading.Line l) = (f : TextFault) × (IsTextFault f text × (l.items ≡ text_fault_line f))
+IsRead (Some text) (reading.Chain c) = IsTheChain text c
+
+-- what may be read, on files that tell nothing
+abbrev pub MayBeRead : Counts → Counts → Reading → Type 0
+MayBeRead before now (reading.Line l) = MayTell before now l.items
+MayBeRead before now (reading.Chain c) = (text : List ℕ) × IsTheChain text c
+
+-- what is due by a chain: the line that refuses it, or a migrator
+abbrev pub IsDue : Chain → ℕ → Due → Type 0
+IsDue c target (due.Line l) = refusal_of c target ≡ Some l.items
+IsDue c target (due.Lift m) = (refusal_of c target ≡ None) × (m ≡ record { chain = c; target = target })

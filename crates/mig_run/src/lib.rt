@@ -2,8 +2,10 @@
 #![tactic(auto)]
 
 mod chain;
+mod check_command;
 mod command;
 mod folder;
+mod lift_command;
 mod lines;
 mod save;
 mod stop;

@@ -3,7 +3,7 @@ ghost use Rattle.std.specs.Prelude.{◌≡◌, ◌≤◌, ◌++◌, [], ◌∷�
 ghost use Rattle.mig_files.specs.Held.{Rose};
 ghost use Rattle.mig_run.specs.Lines as texts;
 ghost use Rattle.mig_run.specs.Lines.{kind_line, tells, listed_line};
-ghost use Rattle.mig_run.specs.Command.{Says};
+ghost use Rattle.mig_run.specs.Command.{Puts, Says};
 ghost use Rattle.mig_run.specs.View.{found, Told};
 ghost use Rattle.mig_tree.specs.Place.{place_text};
 
@@ -31,6 +31,49 @@ pub fn below_line(alloc: Global, first: u32) -> Result<Vec<u8>, AllocError>
     let digits = first.to_string(alloc)?;
     line.extend_from_slice(digits.as_bytes())?;
     line.push(b'\n')?;
+    Ok(line)
+}
+
+// Puts a count to the line.
+fn push_count(alloc: Global, line: &mut Vec<u8>, count: usize) -> Result<(), AllocError>
+    ensures { OnOk result (line.new.items ≡ line.old.items ++ decimal count) }
+{
+    let digits = count.to_string(alloc)?;
+    line.extend_from_slice(digits.as_bytes())?;
+    Ok(())
+}
+
+/// The line that names the first declaration that isn't in the grammar.
+pub fn declaration_line(alloc: Global, number: usize) -> Result<Vec<u8>, AllocError>
+    ensures { IfOk result (λ line. line.items ≡ texts.declaration_line number) }
+{
+    let mut line = b"chain: declaration ".to_vec(alloc)?;
+    push_count(alloc, &mut line, number)?;
+    line.push(b'\n')?;
+    Ok(line)
+}
+
+/// The line of a fault at a declaration.
+pub fn fault_line(alloc: Global, number: u8, declaration: usize) -> Result<Vec<u8>, AllocError>
+    ensures { IfOk result (λ line. line.items ≡ texts.fault_line number declaration) }
+{
+    let mut line = b"chain: fault ".to_vec(alloc)?;
+    push_count(alloc, &mut line, usize::from(number))?;
+    line.extend_from_slice(b" at ")?;
+    push_count(alloc, &mut line, declaration)?;
+    line.push(b'\n')?;
+    Ok(line)
+}
+
+/// The line that says how many schemas and fixes an accepted chain has.
+pub fn accepted_line(alloc: Global, schemas: usize, fixes: usize) -> Result<Vec<u8>, AllocError>
+    ensures { IfOk result (λ line. line.items ≡ texts.accepted_line schemas fixes) }
+{
+    let mut line = b"accepted ".to_vec(alloc)?;
+    push_count(alloc, &mut line, schemas)?;
+    line.extend_from_slice(b" schemas ")?;
+    push_count(alloc, &mut line, fixes)?;
+    line.extend_from_slice(b" fixes\n")?;
     Ok(line)
 }
 
@@ -129,13 +172,23 @@ fn put_line<S: Sink>(line: &[u8], report: &mut S) -> Result<(), Stop>
 /// Puts the line that says why a command isn't run.
 pub fn refuse<S: Sink>(line: &[u8], report: &mut S) -> Result<Ending, Stop>
     ensures told { Says line.now (S.written report.old) (S.written report.new) result }
-    ensures not_run { IfOk result (λ e. e ≡ Ending.NotRun) }
     ensures later { S.faults report.old ≤ S.faults report.new }
     ensures report { IsErrOf result Stop.Report → Rose (S.faults report.old) (S.faults report.new) }
     ensures files { IsErrOf result Stop.Files → ⊥ }
 {
     put_line(line, report)?;
     Ok(Ending::NotRun)
+}
+
+/// Puts the one line of a command that is run.
+pub fn answer<S: Sink>(line: &[u8], report: &mut S) -> Result<Ending, Stop>
+    ensures told { Puts Ending.Done line.now (S.written report.old) (S.written report.new) result }
+    ensures later { S.faults report.old ≤ S.faults report.new }
+    ensures report { IsErrOf result Stop.Report → Rose (S.faults report.old) (S.faults report.new) }
+    ensures files { IsErrOf result Stop.Files → ⊥ }
+{
+    put_line(line, report)?;
+    Ok(Ending::Done)
 }
 
 /// Puts a save's line.

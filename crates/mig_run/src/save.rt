@@ -1,7 +1,6 @@
 //! One save: read, lifted, written, and its line put.
 ghost use Rattle.std.specs.Prelude.{◌≡◌, Some, None, IfSome, IfOk, IsErrOf, IsSome};
 ghost use Rattle.mig_files.specs.Held.{Held, Rose, NoneFell};
-ghost use Rattle.mig_small.specs.Small.{chain_of};
 ghost use Rattle.mig_run.specs.View.{found, Judges, Keeps, job_at};
 ghost use Rattle.mig_run.specs.Folder.{OneSave, outcome};
 ghost use Rattle.mig_run.specs.Causes.{HasCauses, PutsSaves, is_refusal};
@@ -36,7 +35,7 @@ fn judge<F: Files, L: Ledger>(
     steps: &mut Steps<L>,
 ) -> Result<Verdict, Stop>
     ensures told { IfSome (F.held files.old) (λ m.
-        Judges (m (from.now, name.now)) (outcome (chain_of migrator.now.chain) migrator.now.target) result) }
+        Judges (m (from.now, name.now)) (outcome migrator.now.chain migrator.now.target) result) }
     ensures same { F.held files.new ≡ F.held files.old }
     ensures counts { NoneFell (F.counts files.old) (F.counts files.new) }
     ensures files { IsErrOf result Stop.Files → Rose (F.counts files.old).faults (F.counts files.new).faults }

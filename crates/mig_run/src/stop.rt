@@ -8,7 +8,9 @@ use std::alloc::{AllocError, AllocFailed};
 /// How a run that isn't stopped ends.
 #[derive(Clone, Copy, Debug, PartialEq, Eq)]
 pub enum Ending {
-    AllLifted,
+    /// The command was run, and no save was refused.
+    Done,
+    /// The command was run, and a save was refused.
     SomeRefused,
     /// A line says why the command wasn't run.
     NotRun,

@@ -5,7 +5,7 @@ ghost use Rattle.mig_run.specs.Lines.{usage_line};
 ghost use Rattle.mig_run.specs.Command.{Asked, Asks, AsksNothing, Runs, RunsAsked, Outcome, Says, asked};
 ghost use Rattle.mig_run.specs.Causes.{HasCauses, PutsCommand};
 
-use crate::command::lift_command;
+use crate::command::run_command;
 use crate::lines::refuse;
 use crate::stop::{Ending, Stop};
 use crate::words::request_of;
@@ -29,14 +29,14 @@ fn answer<F: Files, S: Sink, L: Ledger>(
         Says usage_line (S.written report.old) (S.written report.new) result
         × (F.held files.new ≡ F.held files.old) × (F.counts files.new ≡ F.counts files.old) }
     ensures lines { IfSome (asked (map string_bytes words.now)) (λ a.
-        PutsCommand a.target (F.counts files.old) (F.counts files.new)
+        PutsCommand a (F.counts files.old) (F.counts files.new)
         (S.written report.old) (S.written report.new) result) }
     ensures causes { HasCauses (F.counts files.old) (F.counts files.new)
         (S.faults report.old) (S.faults report.new) result }
     ensures steps { steps.new ≡ steps.old }
 {
     match request_of(words) {
-        Some(request) => lift_command(alloc, request, files, report, steps),
+        Some(request) => run_command(alloc, request, files, report, steps),
         None => refuse(b"usage\n", report),
     }
 }
@@ -56,7 +56,7 @@ fn ending_of_words<F: Files, S: Sink, L: Ledger>(
         Says usage_line (S.written report.old) (S.written report.new) result
         × (F.held files.new ≡ F.held files.old) × (F.counts files.new ≡ F.counts files.old) }
     ensures lines { (a : Asked) → Asks (map string_bytes words.now) a →
-        PutsCommand a.target (F.counts files.old) (F.counts files.new)
+        PutsCommand a (F.counts files.old) (F.counts files.new)
         (S.written report.old) (S.written report.new) result }
     ensures causes { HasCauses (F.counts files.old) (F.counts files.new)
         (S.faults report.old) (S.faults report.new) result }
@@ -82,7 +82,7 @@ pub fn run<F: Files, S: Sink, L: Ledger>(
         Outcome (Says usage_line (S.written report.old) (S.written report.new)) result
         × (F.held files.new ≡ F.held files.old) × (F.counts files.new ≡ F.counts files.old) }
     ensures lines { (a : Asked) → Asks (map string_bytes words.now) a →
-        Outcome (PutsCommand a.target (F.counts files.old) (F.counts files.new)
+        Outcome (PutsCommand a (F.counts files.old) (F.counts files.new)
         (S.written report.old) (S.written report.new)) result }
     ensures status { result ≤ 5 }
     ensures files { result ≡ 3 → Rose (F.counts files.old).faults (F.counts files.new).faults }
@@ -92,7 +92,7 @@ pub fn run<F: Files, S: Sink, L: Ledger>(
     ensures steps { steps.new ≡ steps.old }
 {
     match ending_of_words(alloc, words, files, report, steps) {
-        Ok(Ending::AllLifted) => 0,
+        Ok(Ending::Done) => 0,
         Ok(Ending::SomeRefused) => 1,
         Ok(Ending::NotRun) => 2,
         Err(Stop::Files) => 3,

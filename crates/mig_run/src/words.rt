@@ -1,8 +1,8 @@
 //! The words of the command line.
 ghost use Rattle.std.specs.Prelude.{◌≡◌, ◌≤◌, IfSome, option_map, map, string_bytes};
 ghost use Rattle.mig_model.specs.Version.{last_version};
-ghost use Rattle.mig_run.specs.Command.{number_of_word, asked};
-ghost use Rattle.mig_run.specs.View.{asked_by};
+ghost use Rattle.mig_run.specs.Command.{number_of_word, asked_at, asked};
+ghost use Rattle.mig_run.specs.View.{asked_by, IsBounded};
 
 use mig_model::LAST_VERSION;
 
@@ -15,10 +15,18 @@ pub struct Folders<'a> {
 
 /// What the words of `lift` ask for.
 #[derive(Clone, Copy)]
-pub struct Request<'a> {
+pub struct LiftRequest<'a> {
     pub chain: &'a str,
     pub folders: Folders<'a>,
     pub target: u32,
+}
+
+/// What words ask for.
+#[derive(Clone, Copy)]
+pub enum Request<'a> {
+    Lift(LiftRequest<'a>),
+    /// To check the chain in this file.
+    Check(&'a str),
 }
 
 // A plain decimal number.
@@ -49,24 +57,30 @@ fn number(word: &[u8]) -> Option<u32>
     Some(n)
 }
 
-/// What the words ask for. The only command is `lift CHAIN FROM TO TARGET`.
+/// What `lift CHAIN FROM TO TARGET` asks for, behind the command.
+fn lift_request<'a>(chain: &'a str, from: &'a str, to: &'a str, target: &str) -> Option<Request<'a>>
+    ensures asked { option_map asked_by result
+        ≡ asked_at chain.now from.now to.now (number_of_word target.now) }
+    ensures bound { IfSome result IsBounded }
+{
+    let target = number(target.as_bytes())?;
+    Some(Request::Lift(LiftRequest {
+        chain,
+        folders: Folders { from, to },
+        target,
+    }))
+}
+
+/// What the words ask for. The commands are `lift CHAIN FROM TO TARGET` and `check CHAIN`.
 pub fn request_of<'a>(words: &'a [String]) -> Option<Request<'a>>
     ensures asked { option_map asked_by result ≡ asked (map string_bytes words.now) }
-    ensures bound { IfSome result (λ r. r.target ≤ last_version) }
+    ensures bound { IfSome result IsBounded }
 {
-    let [command, chain, from, to, target] = words else {
-        return None;
-    };
-    if command.as_str() != "lift" {
-        return None;
+    match words {
+        [command, chain, from, to, target] if command.as_str() == "lift" => {
+            lift_request(chain.as_str(), from.as_str(), to.as_str(), target.as_str())
+        }
+        [command, chain] if command.as_str() == "check" => Some(Request::Check(chain.as_str())),
+        _ => None,
     }
-    let target = number(target.as_bytes())?;
-    Some(Request {
-        chain: chain.as_str(),
-        folders: Folders {
-            from: from.as_str(),
-            to: to.as_str(),
-        },
-        target,
-    })
 }

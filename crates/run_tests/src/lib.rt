@@ -2,4 +2,26 @@
 #![tactic(auto)]
 
 #[cfg(test)]
+mod accepted;
+#[cfg(test)]
+mod chains;
+#[cfg(test)]
+mod checking;
+#[cfg(test)]
+mod contents;
+#[cfg(test)]
+mod families;
+#[cfg(test)]
+mod grammar;
+#[cfg(test)]
+mod limits;
+#[cfg(test)]
+mod order;
+#[cfg(test)]
+mod pairs;
+#[cfg(test)]
+mod running;
+#[cfg(test)]
 mod tests;
+#[cfg(test)]
+mod walks;

@@ -1,14 +1,9 @@
 //! Folders through the whole program. Contracts pin what a run answers, but for want of memory: so each outcome comes
 //! once, with expected bytes and lines that were written by hand.
-ghost use Rattle.std.specs.Prelude.{◌≡◌, ◌<◌};
-
+use crate::running::status_of;
 use mig_files::{MemoryFiles, MemorySink};
-use mig_run::run;
-use mig_tree::Steps;
 use std::alloc::Global;
-use std::marker::Brand;
 use std::process::Abort;
-use std::sync::ledger::{Blank, Ledger};
 
 const CHAIN: &str = "form nbt; version \"DataVersion\"; schema 100;
 type player = { \"name\": text, .. }; root player;
@@ -33,6 +28,10 @@ type p = { \"x\": whole, .. }; root p;
 fix 101 seq(rename \"x\" \"y\", add \"z\" = whole 1);
 schema 101; type p = { \"y\": whole, \"z\": whole, .. }; root p;
 ";
+
+const MORE: &str =
+    "form nbt; version \"DataVersion\"; schema 100; type player = { \"name\": text }; root player;
+fix 101 drop \"name\"; schema 101 follows;";
 
 const SAVE: &[u8] =
     b"\x0a\x00\x00\x03\x00\x0bDataVersion\x00\x00\x00d\x08\x00\x04name\x00\x03Ann\x00";
@@ -97,37 +96,6 @@ const JSON_FRACTION: &[u8] = b"{\"DataVersion\":100,\"x\":1.5}";
 const JSON_LIST: &[u8] = b"[]";
 
 const MEMORY: &str = "memory for a test";
-
-// Runs the words with a counter of its own.
-fn run_counted<L: Ledger>(
-    alloc: Global,
-    words: &[String],
-    files: &mut MemoryFiles,
-    report: &mut MemorySink,
-    blank: Blank,
-) -> u8
-    requires name { blank.name ≡ L.name }
-    requires parts { blank.parts ≡ L.parts }
-    requires some { 0 < L.parts }
-{
-    let mut steps: Steps<L> = Steps::new(blank);
-    run(alloc, words, files, report, &mut steps)
-}
-
-fn status_of(
-    rt: &impl Abort,
-    alloc: Global,
-    line: &[&str],
-    files: &mut MemoryFiles,
-    report: &mut MemorySink,
-) -> u8 {
-    let mut words = Vec::new(alloc);
-    for word in line {
-        let word = String::from_str(alloc, word).expect(rt, MEMORY);
-        words.push(word).expect(rt, MEMORY);
-    }
-    run_counted::<Brand>(alloc, &words, files, report, Blank::new(1))
-}
 
 // Files with this chain, and these saves in the folder `in`.
 fn files_of(
@@ -242,12 +210,16 @@ fn words_and_chains_meet_their_lines(rt: HostRuntime) {
     files
         .put(alloc, ".", "cut.mig", b"form nbt")
         .expect(&rt, MEMORY);
+    files
+        .put(alloc, ".", "more.mig", MORE.as_bytes())
+        .expect(&rt, MEMORY);
     for (chain, target, line, status) in [
         ("c.mig", "101", "", 0u8),
         ("c.mig", "0101", "usage\n", 2),
         ("c.mig", "99", "target below 100\n", 2),
         ("no.mig", "101", "chain: absent\n", 2),
-        ("cut.mig", "101", "chain: not yet\n", 2),
+        ("cut.mig", "101", "chain: declaration 1\n", 2),
+        ("more.mig", "101", "chain: not yet\n", 2),
     ] {
         let mut report = MemorySink::new(alloc);
         let words = ["lift", chain, "in", "out", target];

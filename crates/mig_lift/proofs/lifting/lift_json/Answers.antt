@@ -1,7 +1,6 @@
 use Rattle.std.proofs.Common.{◌≡◌, [], Ok, Err, sym, ap, subst, ◌∙◌}
 use Rattle.mig_tree.specs.View.{plain_of}
 use Rattle.mig_json.specs.Save.{JsonSave}
-use Rattle.mig_small.specs.Small.{chain_of}
 use Rattle.mig_lift.specs.Lift.{lift, lift_tree, encode, encoded}
 use Rattle.mig_lift.specs.View.{Causes}
 use Rattle.mig_lift.proofs.Decoded.{no_json, some_json, caused, passed}
@@ -15,10 +14,10 @@ returns-in_err-tree-2-clause-lifts g c =
     let s = c.args.chain.now in
     let t = plain_of c.in_ok-tree.tree in
     let save : JsonSave c.args.bytes.now t = subst (JsonSave c.args.bytes.now) (sym c.in_ok-tree.ensures.tree) c.in-Ok.ensures.found in
-    let decoded : lift (chain_of s) c.args.target c.args.bytes.now ≡ encoded s.form [] (lift_tree (chain_of s) c.args.target t) =
+    let decoded : lift s c.args.target c.args.bytes.now ≡ encoded s.form [] (lift_tree s c.args.target t) =
     some_json s c.args.target c.args.bytes.now c.requires.form t save in
-    passed c.in_err-tree-2.field-0.0 c.from_residual-in_err-tree-2.result (lift (chain_of s) c.args.target c.args.bytes.now) c.from_residual-in_err-tree-2.ensures
-    (subst (Causes c.in_err-tree-2.field-0.0) (sym decoded) (caused s.form [] c.in_err-tree-2.field-0.0 (lift_tree (chain_of s) c.args.target t) c.in_err-tree-2.ensures.lifts))
+    passed c.in_err-tree-2.field-0.0 c.from_residual-in_err-tree-2.result (lift s c.args.target c.args.bytes.now) c.from_residual-in_err-tree-2.ensures
+    (subst (Causes c.in_err-tree-2.field-0.0) (sym decoded) (caused s.form [] c.in_err-tree-2.field-0.0 (lift_tree s c.args.target t) c.in_err-tree-2.ensures.lifts))
 
 pub returns-clause-lifts : goal.returns-clause-lifts
 returns-clause-lifts g c =

@@ -4,8 +4,8 @@ use Rattle.mig_run.specs.declared.stop.Stop.{Stop}
 use Rattle.mig_run.specs.Command.{status_of}
 use Rattle.mig_run.proofs.top_call.run.Goals as goal
 
-pub returns-in-Ok-AllLifted-clause-lines : goal.returns-in-Ok-AllLifted-clause-lines
-returns-in-Ok-AllLifted-clause-lines g c a h = (Ok c.in-Ok-AllLifted.field-0, ap (λ (e : Ending). status_of (Ok e)) (sym c.in-Ok-AllLifted.field-0-is), c.in-Ok-AllLifted.ensures.lines a h)
+pub returns-in-Ok-Done-clause-lines : goal.returns-in-Ok-Done-clause-lines
+returns-in-Ok-Done-clause-lines g c a h = (Ok c.in-Ok-Done.field-0, ap (λ (e : Ending). status_of (Ok e)) (sym c.in-Ok-Done.field-0-is), c.in-Ok-Done.ensures.lines a h)
 
 pub returns-in-Ok-SomeRefused-clause-lines : goal.returns-in-Ok-SomeRefused-clause-lines
 returns-in-Ok-SomeRefused-clause-lines g c a h = (Ok c.in-Ok-SomeRefused.field-0, ap (λ (e : Ending). status_of (Ok e)) (sym c.in-Ok-SomeRefused.field-0-is), c.in-Ok-SomeRefused.ensures.lines a h)
